@@ -1,0 +1,13 @@
+pub mod Tests
+pub mod Fold
+pub mod Xor
+pub mod ByteLists
+pub mod BigEndian
+pub mod Words
+pub mod Schedule
+pub mod Powers
+pub mod Horner
+pub mod Weights
+pub mod Parity
+pub mod Unique
+pub mod Syndromes

@@ -1,0 +1,6 @@
+pub mod Bytes
+pub mod Shift
+pub mod Generator
+pub mod CheckBytes
+pub mod Loops
+pub mod Examples

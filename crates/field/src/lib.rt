@@ -1,0 +1,4 @@
+// The lowest layer: bytes under XOR, the generator and its seed schedule, and the field of 256 elements.
+pub mod bytes;
+pub mod check_bytes;
+pub mod generator;
