@@ -1,0 +1,10 @@
+pub mod NumberAt
+pub mod Conjunctions
+pub mod LegalCard
+pub mod CardAnswers
+pub mod Degree
+pub mod Sets
+pub mod Picking
+pub mod Bitmap
+pub mod XorFront
+pub mod Payload

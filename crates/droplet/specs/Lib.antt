@@ -1,0 +1,5 @@
+pub mod PoolCard
+pub mod Droplet
+pub mod Questions
+pub mod Loops
+pub mod Examples

@@ -1,0 +1,80 @@
+-- Document 01, "Pool card": the card's fields, the numbers that it holds, and the lengths that follow from them.
+-- Assumes nothing.
+use mathlib.Core.Bool.{Bool, _&&_}
+use mathlib.Core.List.{List}
+use Prim.Native.Nat.{ℕ, zero, suc, _+_, _-_, _*_, _/_, _%_}
+use lib.Dec.{eqb, leb}
+use lib.ListN.{length, take, drop}
+use Rattle.field.specs.Bytes.{fromBigEndian}
+use Rattle.droplet.specs.declared.card.Card.{Card}
+use Rattle.droplet.specs.declared.card.Bases.{Bases}
+use Rattle.droplet.specs.declared.card.Bytes.{Bytes}
+
+-- "Every number is most significant byte first": the number in n bytes from a place on
+unfoldable pub numberAt : ℕ → ℕ → List ℕ → ℕ
+numberAt at n bytes = fromBigEndian (take n (drop at bytes))
+
+-- "a one-byte tag, a two-byte length, then the content": a field of this tag and length starts at a place
+abbrev pub fieldAt : ℕ → ℕ → ℕ → List ℕ → Bool
+fieldAt at tag size card = eqb (numberAt at 1 card) tag && eqb (numberAt (at + 1) 2 card) size
+
+-- where the weights stand, "its first byte being byte 0"
+abbrev pub weightsStart : ℕ
+weightsStart = 20
+
+-- three fields in this order, tags 1, 2, 3, lengths 6, 5 and a multiple of 4, and nothing after them
+unfoldable pub wellFormed : List ℕ → Bool
+wellFormed card =
+    leb weightsStart (length card) && fieldAt 0 1 6 card && fieldAt 9 2 5 card && fieldAt 17 3 (length card - weightsStart) card
+    && eqb ((length card - weightsStart) % 4) 0
+
+-- the numbers of a card, and the bytes of its weights
+unfoldable pub cardNumbers : List ℕ → Card
+cardNumbers card = record {
+  f = numberAt 3 4 card;
+  l = numberAt 7 1 card;
+  r = numberAt 8 1 card;
+  m = numberAt 12 1 card;
+  lo = numberAt 13 2 card;
+  hi = numberAt 15 2 card;
+}
+
+abbrev pub cardWeights : List ℕ → List ℕ
+cardWeights card = drop weightsStart card
+
+-- "the degree plan, D weights of four bytes": D, and the weight of degree i + 1
+abbrev pub weightCount : List ℕ → ℕ
+weightCount weights = length weights / 4
+
+unfoldable pub weightAt : List ℕ → ℕ → ℕ
+weightAt weights i = numberAt (i * 4) 4 weights
+
+-- the sum of the first d weights, and of all
+unfoldable pub firstWeights : List ℕ → ℕ → ℕ
+firstWeights weights zero = 0
+firstWeights weights (suc d) = firstWeights weights d + weightAt weights d
+
+abbrev pub weightSum : List ℕ → ℕ
+weightSum weights = firstWeights weights (weightCount weights)
+
+-- "K is F divided by L, rounded up"
+unfoldable pub segmentCount : Card → ℕ
+segmentCount c = (c .f + (c .l - 1)) / c .l
+
+-- the bytes of a strand (seed, payload and check bytes) and of a record (seed and payload)
+unfoldable pub strandBytes : Card → ℕ
+strandBytes c = 4 + c .l + c .r
+
+unfoldable pub recordBytes : Card → ℕ
+recordBytes c = 4 + c .l
+
+-- "four bases are one byte"
+unfoldable pub basesOf : Bytes → Bases
+basesOf n = record { 0 = n .0 * 4 }
+
+unfoldable pub bytesOf : Bases → Bytes
+bytesOf n = record { 0 = n .0 / 4 }
+
+-- "The strand length is n = 4 times (4 + L + R) bases"
+abbrev pub strandBases : Card → ℕ
+strandBases c = strandBytes c * 4

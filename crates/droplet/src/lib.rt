@@ -1,0 +1,4 @@
+// The second layer: the pool card, and the droplet that a seed picks under it.
+pub mod card;
+pub mod droplet;
+pub mod weights;
