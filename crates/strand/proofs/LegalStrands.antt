@@ -1,0 +1,158 @@
+-- The read check accepts exactly the strings that spell a legal strand, and gives back its seed and payload. Assumes nothing.
+use mathlib.Core.Path.{_≡_, refl, sym, ap, ap₂, _∙_, subst}
+use mathlib.Core.Bool.{Bool, true, false, cond, _&&_, false≢true}
+use mathlib.Core.List.{List, [], _∷_, _++_, append-assoc}
+use mathlib.Core.Logic.{_↔_, ⊎-elim, inl, inr}
+use Prim.Native.Nat.{ℕ, zero, suc, _+_, _*_, _^_, _<_, _≤_}
+use native.Mathlib.Omega.{arith}
+use borrow.Author.Tests.{eq-eqb, ne-eqb, eqb-true, eqb-false}
+use lib.Dec.{eqb}
+use lib.ListN.{length, getD, take, drop, replicate, take-append-drop, length-drop}
+use lib.Seq.{length-take-le, drop-drop}
+use Rattle.field.specs.Bytes.{IsByte, AllBytes, fromBigEndian, toBigEndian}
+use Rattle.field.specs.CheckBytes.{CheckCount, Vanishes, syndromes, parity}
+use Rattle.field.proofs.Tests.{either}
+use Rattle.field.proofs.BigEndian.{from-to, from-lt}
+use Rattle.field.proofs.ByteLists.{four, all-take, all-drop, all-append}
+use Rattle.field.proofs.Parity.{parity-vanishes}
+use Rattle.field.proofs.Unique.{parity-only}
+use Rattle.field.proofs.Syndromes.{syndromes-vanish}
+use Rattle.droplet.specs.declared.card.Card.{Card}
+use Rattle.droplet.specs.PoolCard.{strandBytes, strandBases}
+use Rattle.droplet.specs.Questions.{cardRefusal}
+use Rattle.droplet.proofs.LegalCard.{legal}
+use Rattle.strand.specs.Letters.{allLetters, wordLetters, lettersWord}
+use Rattle.strand.specs.Screen.{screenPasses}
+use Rattle.strand.specs.ReadCheck.{Reading, droplet, refused, wordSeed, wordPayload, allZero, sumsZero, wordReading, lettersReading, readCheck, strandWord}
+use Rattle.strand.specs.LegalStrand.{Spells, AcceptsExactly}
+use Rattle.strand.proofs.Spelling.{word-back, letters-all, letters-length, spelled-bytes, spelled-length, read-back}
+use Rattle.strand.proofs.StrandWords.{message-bytes, strand-length, strand-bytes, strand-seed, strand-payload}
+
+-- ---- an accepted read has passed each question
+
+module _ (s : ℕ) (p : List ℕ) (x : Reading) where
+  asked : (b : Bool) (n : ℕ) → cond b x (refused n) ≡ droplet s p → (b ≡ true) × (x ≡ droplet s p)
+  asked true n e = (refl, e)
+  asked false n e = absurd (let z : _≡_ {A = ℕ} 0 1 = cc in let y : ⊥ = omega arith in y)
+
+  asked-not : (b : Bool) (n : ℕ) → cond b (refused n) x ≡ droplet s p → (b ≡ false) × (x ≡ droplet s p)
+  asked-not true n e = absurd (let z : _≡_ {A = ℕ} 0 1 = cc in let y : ⊥ = omega arith in y)
+  asked-not false n e = (refl, e)
+
+-- ---- check sums
+
+zeros-list : (l : List ℕ) → allZero l ≡ true → l ≡ replicate (length l) 0
+zeros-list [] e = refl
+zeros-list (x ∷ xs) e =
+    elim (either (eqb x 0)) [
+      | inl t ↦ ap₂ _∷_ (eqb-true x 0 t) (zeros-list xs (rw t at e))
+      | inr t ↦ absurd (false≢true (rw t at e))
+    ]
+
+module _ (c : Card) (word : List ℕ) (few : c .r ≤ 4) where
+  sums-vanish : sumsZero c word ≡ true → Vanishes (c .r) word
+  unfolding sumsZero syndromes
+  sums-vanish e = syndromes-vanish (c .r) word few .0 (zeros-list (syndromes (c .r) word) e)
+
+  vanish-sums : Vanishes (c .r) word → sumsZero c word ≡ true
+  unfolding sumsZero
+  vanish-sums v = rw (syndromes-vanish (c .r) word few .1 v)
+
+most-checks : {r : ℕ} → CheckCount r → r ≤ 4
+most-checks = ⊎-elim (λ e. omega arith) (λ e. omega arith)
+
+-- ---- a word whose check sums are 0 is that of its seed and payload
+
+seed-text : (l : List ℕ) → length l ≡ 4 → AllBytes l → (toBigEndian (fromBigEndian l) ≡ l) × (fromBigEndian l < 2 ^ 32)
+seed-text l e =
+    subst (λ (m : List ℕ). AllBytes m → (toBigEndian (fromBigEndian m) ≡ m) × (fromBigEndian m < 2 ^ 32)) (sym (four l e))
+    (λ h. (from-to _ _ _ _ h, from-lt _ _ _ _ h))
+
+module _ (c : Card) (few : c .r ≤ 4) (word : List ℕ) (size : length word ≡ strandBytes c) (bytes : AllBytes word) where
+  front-size : length (take 4 word) ≡ 4
+  unfolding strandBytes
+  front-size = length-take-le 4 word (omega arith)
+
+  pub seed-lt : wordSeed word < 2 ^ 32
+  seed-lt = seed-text (take 4 word) front-size (all-take IsByte 4 word bytes) .1
+
+  pub payload-size : length (wordPayload c word) ≡ c .l
+  unfolding strandBytes
+  payload-size = length-take-le (c .l) (drop 4 word) (rw length-drop (omega arith))
+
+  pub payload-bytes : AllBytes (wordPayload c word)
+  payload-bytes = all-take IsByte (c .l) (drop 4 word) (all-drop IsByte 4 word bytes)
+
+  checks : List ℕ
+  checks = drop (c .l) (drop 4 word)
+
+  message : List ℕ
+  message = toBigEndian (wordSeed word) ++ wordPayload c word
+
+  word-parts : word ≡ message ++ checks
+  unfolding message checks
+  word-parts =
+      rw (seed-text (take 4 word) front-size (all-take IsByte 4 word bytes) .0, append-assoc (take 4 word) (wordPayload c word) (drop (c .l) (drop 4 word)), take-append-drop (c .l) (drop 4 word))
+      (sym (take-append-drop 4 word))
+
+  checks-size : length checks ≡ c .r
+  unfolding checks strandBytes
+  checks-size = simp length-drop (omega arith)
+
+  pub word-strand : sumsZero c word ≡ true → word ≡ strandWord c (wordSeed word) (wordPayload c word)
+  unfolding strandWord message checks
+  word-strand e =
+      word-parts
+      ∙ ap (λ (l : List ℕ). message ++ l)
+      (parity-only (c .r) message checks few (message-bytes c (wordSeed word) (wordPayload c word) payload-bytes)
+      (all-drop IsByte (c .l) (drop 4 word) (all-drop IsByte 4 word bytes)) checks-size .0
+      (subst (Vanishes (c .r)) word-parts (sums-vanish c word few e)))
+
+-- ---- the theorem
+
+module _ (c : Card) (weights read : List ℕ) (seed : ℕ) (p : List ℕ) where
+  spells : readCheck c weights read ≡ droplet seed p → Spells c weights read seed p
+  unfolding readCheck lettersReading wordReading
+  spells e =
+      let word = lettersWord read in
+      let last = droplet (wordSeed word) (wordPayload c word) in
+      let card = asked seed p (lettersReading c read) (eqb (cardRefusal c weights) 0) (cardRefusal c weights) e in
+      let fine = eqb-true (cardRefusal c weights) 0 (card .0) in
+      let few = most-checks (legal c weights fine .sizes .check-count) in
+      let nine = asked seed p (cond (allLetters read) (wordReading c word) (refused 10)) (eqb (length read) (strandBases c)) 9 (card .1) in
+      let ten = asked seed p (wordReading c word) (allLetters read) 10 (nine .1) in
+      let eleven = asked seed p (cond (eqb (wordSeed word) 0) (refused 12) (cond (screenPasses c word) last (refused 13))) (sumsZero c word) 11 (ten .1) in
+      let twelve = asked-not seed p (cond (screenPasses c word) last (refused 13)) (eqb (wordSeed word) 0) 12 (eleven .1) in
+      let thirteen = asked seed p last (screenPasses c word) 13 (twelve .1) in
+      let same : last ≡ droplet seed p = thirteen .1 in
+      let n : length read ≡ 4 * strandBytes c = omega (arith, eqb-true (length read) (strandBases c) (nine .0)) in
+      let size = spelled-length (strandBytes c) read n in
+      let bytes = spelled-bytes read in
+      let is-seed : wordSeed word ≡ seed = cc same in
+      let is-payload : wordPayload c word ≡ p = cc same in
+      let strand = word-strand c few word size bytes (eleven .0) in
+      let positive = eqb-false (wordSeed word) 0 (twelve .0) in
+      record {
+        card = fine;
+        nonzero = rw is-seed at (let z : 0 < wordSeed word = omega arith in z);
+        fits = rw is-seed at (seed-lt c few word size bytes);
+        size = rw is-payload at (payload-size c few word size bytes);
+        bytes = rw is-payload at (payload-bytes c few word size bytes);
+        screened = rw (← is-seed, ← is-payload, ← strand) (thirteen .0);
+        letters = rw (← is-seed, ← is-payload, ← strand) (sym (read-back (strandBytes c) read n (ten .0)));
+      }
+
+  accepted : Spells c weights read seed p → readCheck c weights read ≡ droplet seed p
+  unfolding readCheck lettersReading wordReading
+  accepted h =
+      let few = most-checks (legal c weights (h .card) .sizes .check-count) in
+      let word = strandWord c seed p in
+      let n : length read ≡ strandBases c = rw (h .letters) (omega (arith, letters-length word, strand-length c seed p (h .size))) in
+      let ten : allLetters read ≡ true = rw (h .letters) (letters-all word) in
+      let same : lettersWord read ≡ word = rw (h .letters) (word-back word (strand-bytes c seed p (h .bytes))) in
+      let eleven : sumsZero c word ≡ true = vanish-sums c word few (unfold strandWord in parity-vanishes (c .r) (toBigEndian seed ++ p)) in
+      let twelve : eqb seed 0 ≡ false = ne-eqb seed 0 (λ z. omega arith) in
+      rw (eq-eqb _ _ (h .card), eq-eqb _ _ n, ten, same, eleven, strand-seed c seed p (h .fits), twelve, h .screened, strand-payload c seed p (h .size))
+
+pub accepts-exactly : AcceptsExactly
+accepts-exactly c weights read seed p = (spells c weights read seed p, accepted c weights read seed p)

@@ -1,0 +1,12 @@
+pub mod Spelling
+pub mod Screening
+pub mod StrandWords
+pub mod ReadingCases
+pub mod LegalStrands
+pub mod CAnswers
+pub mod SeedWords
+pub mod Runs
+pub mod Lines
+pub mod Turns
+pub mod WriterAnswers
+pub mod RoundTrips

@@ -1,0 +1,46 @@
+-- Lines: a strand's line has n letters and a newline, a run's text as many lines as it made, and a line stands in the buffer.
+-- Assumes nothing.
+use mathlib.Core.Path.{_≡_, sym, ap, _∙_}
+use mathlib.Core.List.{List, [], _∷_, _++_, append-assoc}
+use Prim.Native.Nat.{ℕ, _+_, _*_, _≤_}
+use native.Mathlib.Nat.{suc-mul}
+use native.Mathlib.Omega.{arith}
+use lib.ListN.{length, take, drop, length-append}
+use lib.Seq.{take-at, drop-at, length-take-le}
+use Rattle.droplet.specs.declared.card.Card.{Card}
+use Rattle.droplet.specs.PoolCard.{strandBases}
+use Rattle.strand.specs.declared.writer.Stop.{Stop}
+use Rattle.strand.specs.Writer.{seedWord, strandLine, strandLines, written, writerRun}
+use Rattle.strand.specs.Loops.{withText}
+use Rattle.strand.proofs.Spelling.{letters-length}
+use Rattle.strand.proofs.SeedWords.{word-length}
+use Rattle.strand.proofs.Runs.{run-facts}
+
+module _ (c : Card) (ws file : List ℕ) where
+  pub line-length : (seed : ℕ) → length (strandLine (seedWord c ws file seed)) ≡ strandBases c + 1
+  line-length seed =
+      rw (length-append, letters-length, word-length) (omega arith)
+
+  lines-length : (seeds : List ℕ) → length (strandLines c ws file seeds) ≡ length seeds * (strandBases c + 1)
+  unfolding strandLines
+  lines-length [] = omega arith
+  lines-length (seed ∷ seeds) = rw (suc-mul, length-append, lines-length seeds, line-length seed) (omega arith)
+
+  pub text-length : (start wanted budget : ℕ) (stop : Stop) (made tried next : ℕ) (text : List ℕ)
+      → writerRun c ws file start wanted budget ≡ written stop made tried next text → length text ≡ made * (strandBases c + 1)
+  text-length start wanted budget stop made tried next text e =
+      let f = run-facts c ws file start wanted budget stop made tried next text e in
+      ap length (f .prints) ∙ lines-length _ ∙ ap (λ n. n * (strandBases c + 1)) (sym (f .counts))
+
+-- a text in a buffer
+module _ (at : ℕ) (text out : List ℕ) (room : at ≤ length out) where
+  front : length (take at out ++ text) ≡ at + length text
+  front = length-append (take at out) text ∙ ap (λ n. n + length text) (length-take-le at out room)
+
+  pub text-taken : take (at + length text) (withText at text out) ≡ take at out ++ text
+  unfolding withText
+  text-taken = rw (← append-assoc) (take-at (take at out ++ text) _ _ front)
+
+  pub text-dropped : drop (at + length text) (withText at text out) ≡ drop (at + length text) out
+  unfolding withText
+  text-dropped = rw (← append-assoc) (drop-at (take at out ++ text) _ _ front)

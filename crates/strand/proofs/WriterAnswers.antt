@@ -1,0 +1,80 @@
+-- The writer's promise, for each way in which it answers: refused by a question, or after a run. Assumes nothing.
+use mathlib.Core.Path.{_≡_, refl, sym, ap, _∙_}
+use mathlib.Core.Bool.{Bool, true, false, cond, _&&_}
+use mathlib.Core.List.{List, _++_}
+use Prim.Native.Nat.{ℕ, suc, _+_, _*_, _≤_}
+use native.Mathlib.Omega.{arith}
+use borrow.Author.Tests.{eq-eqb, ne-eqb, leb-true}
+use lib.Dec.{eqb, leb}
+use lib.ListN.{length, take, take-append-drop}
+use Rattle.droplet.specs.declared.card.Card.{Card}
+use Rattle.droplet.specs.PoolCard.{weightCount, strandBases}
+use Rattle.droplet.specs.Questions.{cardRefusal}
+use Rattle.droplet.proofs.Conjunctions.{and-true, said-yes}
+use Rattle.strand.specs.declared.writer.Run.{Run}
+use Rattle.strand.specs.declared.writer.WriteAnswer.the-variants as answer
+use Rattle.strand.specs.Writer.{writerRefusal, WriterPromise}
+use Rattle.strand.specs.Loops.{Ran, ownRefusal}
+use Rattle.strand.proofs.Lines.{text-length}
+
+-- ---- the questions 5 to 8
+
+said-no : (b : Bool) (n others : ℕ) → cond b (suc n) others ≡ 0 → others ≡ 0
+said-no true n others e = absurd (let z : ⊥ = omega arith in z)
+said-no false n others e = e
+
+-- what they leave where all say yes
+pub record Room (c : Card) (degrees wanted buffer numbers : ℕ) : Type 0 where
+  pub lines : wanted * (strandBases c + 1) ≤ buffer
+  pub places : degrees ≤ numbers
+
+pub roomy : {c : Card} {degrees wanted buffer numbers : ℕ} (file start : ℕ) → ownRefusal c degrees file start wanted buffer numbers ≡ 0
+    → Room c degrees wanted buffer numbers
+unfolding ownRefusal
+roomy {c} {degrees} {wanted} {buffer} {numbers} file start e =
+    let five = said-yes (eqb file (c .f)) _ _ e in
+    let six = said-no (eqb start 0) _ _ (five .1) in
+    let seven = said-yes (leb wanted 1000000 && leb (wanted * (strandBases c + 1)) buffer) _ _ six in
+    let eight = said-yes (leb degrees numbers) _ _ (seven .1) in
+    record {
+      lines = leb-true _ buffer (and-true (leb wanted 1000000) _ (seven .0) .1);
+      places = leb-true degrees numbers (eight .0);
+    }
+
+-- ---- the answers
+
+-- after 2 to 4, only 5 to 8 are left
+own : (c : Card) (ws file : List ℕ) (start wanted buffer numbers : ℕ) → cardRefusal c ws ≡ 0
+    → writerRefusal c ws file start wanted buffer numbers ≡ ownRefusal c (weightCount ws) (length file) start wanted buffer numbers
+unfolding writerRefusal ownRefusal
+own c ws file start wanted buffer numbers legal = rw (eq-eqb _ _ legal)
+
+module _ {c : Card} {ws file : List ℕ} {start wanted budget : ℕ} {out list : List ℕ} where
+  refused : {n : ℕ} → writerRefusal c ws file start wanted (length out) (length list) ≡ n → (n ≡ 0 → ⊥)
+      → WriterPromise c ws file start wanted budget out list (answer.Refused n) out list
+  refused e not-zero =
+      let no = ne-eqb _ _ not-zero in
+      record { says = rw (e, no); prints = rw (e, no); keeps = refl; untouched = λ _. refl }
+
+  pub card-refused : {n : ℕ} → cardRefusal c ws ≡ n → (n ≡ 0 → ⊥)
+      → WriterPromise c ws file start wanted budget out list (answer.Refused n) out list
+  unfolding writerRefusal
+  card-refused e not-zero = refused (rw (e, ne-eqb _ _ not-zero)) not-zero
+
+  module _ (legal : cardRefusal c ws ≡ 0) where
+    pub own-refused : {n : ℕ} → n ≡ ownRefusal c (weightCount ws) (length file) start wanted (length out) (length list) → (n ≡ 0 → ⊥)
+        → WriterPromise c ws file start wanted budget out list (answer.Refused n) out list
+    own-refused e = refused (own c ws file start wanted _ _ legal ∙ sym e)
+
+    pub answered : {run : Run} {out′ list′ : List ℕ} → 0 ≡ ownRefusal c (weightCount ws) (length file) start wanted (length out) (length list)
+        → Ran c ws file start wanted budget run out list out′ list′
+        → WriterPromise c ws file start wanted budget out list (answer.Written run) out′ list′
+    answered {run} {out′} e ran =
+        let yes : eqb (writerRefusal c ws file start wanted (length out) (length list)) 0 ≡ true = eq-eqb _ _ (own c ws file start wanted _ _ legal ∙ sym e) in
+        let n = text-length c ws file start wanted budget _ _ _ _ _ (ran .ends) in
+        record {
+          says = rw (yes, ran .ends);
+          prints = rw (yes, ran .ends, n) (sym (take-append-drop (run .made * (strandBases c + 1)) out′) ∙ ap (_++_ (take (run .made * (strandBases c + 1)) out′)) (ran .rest));
+          keeps = ran .keeps;
+          untouched = λ no. absurd (let z : _≡_ {A = ℕ} 0 1 = cc in let f : ⊥ = omega arith in f);
+        }

@@ -1,0 +1,93 @@
+-- `check_word` meets its contract: each way out is a case of the definition. Assumes nothing.
+use mathlib.Core.Path.{_≡_, sym, ap, _∙_}
+use mathlib.Core.Bool.{Bool}
+use mathlib.Core.List.{List}
+use Prim.Native.Nat.{ℕ, _+_, _-_, _≤_}
+use native.Mathlib.Omega.{arith}
+use lib.ListN.{length, take, drop, length-take, length-drop}
+use Rattle.field.specs.Bytes.{padded}
+use Rattle.field.specs.CheckBytes.{syndromes}
+use Rattle.droplet.specs.declared.card.Card.{Card}
+use Rattle.strand.specs.declared.read_check.ReadOutcome.the-variants.{Droplet}
+use Rattle.strand.specs.ReadCheck.{Answers, allZero, sumsZero, wordSeed, wordPayload, wordReading}
+use Rattle.strand.specs.ReadCheck.Reading.{droplet}
+use Rattle.strand.proofs.ReadingCases.{word-fits, case-11, case-12, case-13, case-droplet}
+use borrow.Author.Needs.{needs}
+use Rattle.strand.proofs.read_check.check_word.Statement.{statement}
+use Rattle.strand.proofs.read_check.check_word.Tie as tie
+
+-- what the code found of the sums is what question 11 asks
+sums : (card : Card) (word s : List ℕ) (flag b : Bool) → flag ≡ allZero s → s ≡ syndromes (card .r) word → flag ≡ b → sumsZero card word ≡ b
+unfolding sumsZero
+sums card word s flag b e f g = ap allZero (sym f) ∙ sym e ∙ g
+
+accepted : (card : Card) (word payload : List ℕ) (seed : ℕ) → wordReading card word ≡ droplet (wordSeed word) (wordPayload card word)
+    → seed ≡ wordSeed word → payload ≡ padded 64 (take (4 + card .l - 4) (drop 4 word))
+    → Answers (wordReading card word) (record { outcome = Droplet seed; payload = payload })
+accepted card word payload seed e s p =
+    let n : 4 + card .l - 4 ≡ card .l = omega arith in
+    rw e (record { says = ap Droplet s; holds = rw n at p })
+
+syndromes-of-requires : tie.Need-syndromes-of-requires
+syndromes-of-requires c κs = c .before .pre .measured .check-count
+
+seed-of-requires : tie.Need-seed-of-requires
+seed-of-requires c κs = omega (arith, word-fits _ _ (c .before .before .before .before .pre) .0)
+
+returns : tie.Need-returns
+returns c =
+    let z = c .before .before .before in
+    let a = z .before .before .before .before .args in
+    rw (case-12 (a .card) (a .word .now) (sums (a .card) (a .word .now) _ _ _ (z .before .all-zero .ensures) (z .before .before .syndromes-of .ensures) (z .if1 .taken))
+    (sym (c .before .before .seed-of .ensures) ∙ c .before .if2 .taken)) (c .refuse .ensures)
+
+passes-requires : tie.Need-passes-requires
+passes-requires c κs = word-fits _ _ (c .before .before .before .before .before .before .pre) .1
+
+part-pad-end : tie.Need-part-pad-end
+part-pad-end c = omega (arith, word-fits _ _ (c .before .before .before .before .before .before .before .before .before .pre) .0)
+
+returns-2 : tie.Need-returns-2
+returns-2 c =
+    let p = c .before .before .before .before in
+    let z = p .before .before .before in
+    let a = z .before .before .before .before .args in
+    accepted (a .card) (a .word .now) (c .pad .result) (p .before .before .seed-of .result)
+    (case-droplet (a .card) (a .word .now) (sums (a .card) (a .word .now) _ _ _ (z .before .all-zero .ensures) (z .before .before .syndromes-of .ensures) (z .if1 .taken))
+    (λ s. p .before .if2 .left (p .before .before .seed-of .ensures ∙ s)) (sym (p .passes .ensures) ∙ c .before .before .before .if3 .taken)) (p .before .before .seed-of .ensures) (c .pad .ensures)
+
+returns-3 : tie.Need-returns-3
+returns-3 c =
+    let p = c .before .before in
+    let z = p .before .before .before in
+    let a = z .before .before .before .before .args in
+    rw (case-13 (a .card) (a .word .now) (sums (a .card) (a .word .now) _ _ _ (z .before .all-zero .ensures) (z .before .before .syndromes-of .ensures) (z .if1 .taken))
+    (λ s. p .before .if2 .left (p .before .before .seed-of .ensures ∙ s)) (sym (p .passes .ensures) ∙ c .before .if3 .left)) (c .refuse2 .ensures)
+
+returns-4 : tie.Need-returns-4
+returns-4 c =
+    let z = c .before in
+    let a = z .before .before .before .before .args in
+    rw (case-11 (a .card) (a .word .now) (sums (a .card) (a .word .now) _ _ _ (z .before .all-zero .ensures) (z .before .before .syndromes-of .ensures) (z .if1 .left))) (c .refuse3 .ensures)
+
+pub check-word-spec : {M : Type 1} → statement M
+check-word-spec =
+    tie.close
+    (tie.spec
+    syndromes-of-requires
+    (λ c κs. search needs)
+    seed-of-requires
+    (λ c κs. search needs)
+    returns
+    passes-requires
+    (λ c. search needs)
+    (λ c. search needs)
+    (λ c. search needs)
+    (λ c. search needs)
+    part-pad-end
+    (λ c κs. search needs)
+    returns-2
+    (λ c κs. search needs)
+    returns-3
+    (λ c κs. search needs)
+    returns-4)

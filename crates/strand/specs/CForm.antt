@@ -1,0 +1,19 @@
+-- Document 01, "Shelf": "The read check's C form takes the same inputs and a lent buffer." Assumes nothing.
+use mathlib.Core.Bool.{cond}
+use mathlib.Core.List.{List, _++_}
+use Prim.Native.Nat.{ℕ, _+_}
+use lib.Dec.{leb}
+use lib.ListN.{length, drop}
+use Rattle.field.specs.Bytes.{toBigEndian}
+use Rattle.strand.specs.ReadCheck.{Reading, droplet, refused}
+
+-- the number returned, and the lent buffer after it
+pub data CAnswer : Type 0 where
+  handed : ℕ → List ℕ → CAnswer
+
+-- "For an accepted read it writes the seed and the L payload bytes into the buffer's first 4 + L bytes, leaves the others as
+-- they were and returns 0. Otherwise it returns the refusal number"; 16: "buffer at least 4 + L bytes?"
+unfoldable pub handedOver : ℕ → List ℕ → Reading → CAnswer
+handedOver L out (refused n) = handed n out
+handedOver L out (droplet seed payload) =
+    cond (leb (4 + L) (length out)) (handed 0 (toBigEndian seed ++ (payload ++ drop (4 + L) out))) (handed 16 out)

@@ -1,0 +1,33 @@
+-- What the writer writes, the read check gives back: seed and payload of every strand, under the same card (demand 2). Assumes nothing.
+use mathlib.Core.Path.{_≡_}
+use mathlib.Core.Bool.{true}
+use mathlib.Core.List.{List}
+use Prim.Native.Nat.{ℕ, _^_, _<_}
+use Rattle.field.specs.Bytes.{All, AllBytes}
+use Rattle.droplet.specs.declared.card.Card.{Card}
+use Rattle.droplet.specs.PoolCard.{segmentCount}
+use Rattle.droplet.specs.Questions.{cardRefusal}
+use Rattle.droplet.specs.Droplet.{segmentsOf, payload}
+use Rattle.strand.specs.Letters.{wordLetters}
+use Rattle.strand.specs.Screen.{screenPasses}
+use Rattle.strand.specs.ReadCheck.{droplet, readCheck}
+use Rattle.strand.specs.Writer.{seedWord, passingFirst}
+
+-- the strand of a seed is read back as its droplet
+abbrev pub ReadBack : Card → List ℕ → List ℕ → ℕ → Type 0
+ReadBack c weights file seed =
+    readCheck c weights (wordLetters (seedWord c weights file seed)) ≡ droplet seed (payload (c .l) file (segmentsOf weights (segmentCount c) seed))
+
+-- a seed is no 0 and of 32 bits
+abbrev pub IsSeed : ℕ → Type 0
+IsSeed seed = (0 < seed) × (seed < 2 ^ 32)
+
+-- so is every strand that passes the screen
+abbrev pub StrandsReadBack : Type 0
+StrandsReadBack = (c : Card) (weights file : List ℕ) (seed : ℕ) → cardRefusal c weights ≡ 0 → AllBytes file → IsSeed seed
+    → screenPasses c (seedWord c weights file seed) ≡ true → ReadBack c weights file seed
+
+-- and so every strand of a run: those of the passing seeds among the first t from a start on
+abbrev pub RunsReadBack : Type 0
+RunsReadBack = (c : Card) (weights file : List ℕ) (start t : ℕ) → cardRefusal c weights ≡ 0 → AllBytes file → IsSeed start
+    → All (ReadBack c weights file) (passingFirst c weights file start t)

@@ -1,0 +1,111 @@
+-- Document 01, "Writer", and its questions 5 to 8. Assumes nothing.
+use mathlib.Core.Path.{_≡_}
+use mathlib.Core.Bool.{false, cond, _&&_}
+use mathlib.Core.List.{List, [], _∷_, _++_}
+use mathlib.Core.Logic.{_↔_}
+use Prim.Native.Nat.{ℕ, zero, suc, _+_, _*_, _<_, _≤_}
+use lib.Dec.{eqb, leb}
+use lib.ListN.{length, drop}
+use Rattle.field.specs.Generator.{seedAfter, iterate, seedsFrom}
+use Rattle.droplet.specs.declared.card.Card.{Card}
+use Rattle.droplet.specs.PoolCard.{segmentCount, weightCount, strandBases}
+use Rattle.droplet.specs.Questions.{cardRefusal}
+use Rattle.droplet.specs.Droplet.{segmentsOf, payload}
+use Rattle.strand.specs.declared.writer.Stop.{Stop}
+use Rattle.strand.specs.declared.writer.Stop.the-variants.{Done, Spent}
+use Rattle.strand.specs.declared.writer.WriteAnswer.{WriteAnswer}
+use Rattle.strand.specs.declared.writer.WriteAnswer.the-variants as answer
+use Rattle.strand.specs.Letters.{wordLetters}
+use Rattle.strand.specs.Screen.{screenPasses}
+use Rattle.strand.specs.ReadCheck.{strandWord}
+
+-- the word of the strand that a seed gives for a file
+unfoldable pub seedWord : Card → List ℕ → List ℕ → ℕ → List ℕ
+seedWord c weights file seed = strandWord c seed (payload (c .l) file (segmentsOf weights (segmentCount c) seed))
+
+-- "n letters and a newline byte"
+abbrev pub strandLine : List ℕ → List ℕ
+strandLine word = wordLetters word ++ (10 ∷ [])
+
+-- how a run ended, with all that it wrote
+pub data Written : Type 0 where
+  written : Stop → ℕ → ℕ → ℕ → List ℕ → Written
+
+-- the run from a seed on, with `left` seeds of the budget, after `made` and `tried`, with `text` written:
+-- "done when made = wanted, otherwise spent when tried = budget; done comes first"
+unfoldable pub writeFrom : Card → List ℕ → List ℕ → ℕ → ℕ → ℕ → ℕ → ℕ → List ℕ → Written
+writeFrom c weights file wanted zero seed made tried text =
+    cond (eqb made wanted) (written Done made tried seed text) (written Spent made tried seed text)
+writeFrom c weights file wanted (suc left) seed made tried text =
+    cond (eqb made wanted) (written Done made tried seed text)
+    (cond (screenPasses c (seedWord c weights file seed))
+    (writeFrom c weights file wanted left (seedAfter seed) (suc made) (suc tried) (text ++ strandLine (seedWord c weights file seed)))
+    (writeFrom c weights file wanted left (seedAfter seed) made (suc tried) text))
+
+-- "Seeds are tried in schedule order, the start first"
+unfoldable pub writerRun : Card → List ℕ → List ℕ → ℕ → ℕ → ℕ → Written
+writerRun c weights file start wanted budget = writeFrom c weights file wanted budget start 0 0 []
+
+-- the seeds of a list whose strands pass the screen, in their order
+unfoldable pub passing : Card → List ℕ → List ℕ → List ℕ → List ℕ
+passing c weights file [] = []
+passing c weights file (seed ∷ seeds) =
+    cond (screenPasses c (seedWord c weights file seed)) (seed ∷ passing c weights file seeds) (passing c weights file seeds)
+
+-- those among the first t seeds of the schedule
+abbrev pub passingFirst : Card → List ℕ → List ℕ → ℕ → ℕ → List ℕ
+passingFirst c weights file start t = passing c weights file (seedsFrom t start)
+
+-- the strands of seeds, a line each
+unfoldable pub strandLines : Card → List ℕ → List ℕ → List ℕ → List ℕ
+strandLines c weights file [] = []
+strandLines c weights file (seed ∷ seeds) = strandLine (seedWord c weights file seed) ++ strandLines c weights file seeds
+
+-- what a run from a start seed did, in document 01's words
+pub record RunFacts (c : Card) (weights file : List ℕ) (start wanted budget : ℕ) (stop : Stop) (made tried next : ℕ) (text : List ℕ) : Type 0 where
+  -- "Seeds are tried in schedule order, the start first. Each strand that passes the screen is written"
+  pub prints : text ≡ strandLines c weights file (passingFirst c weights file start tried)
+  pub counts : made ≡ length (passingFirst c weights file start tried)
+  -- "the next seed (the step after the last one tried, or the start if none was)"
+  pub steps : next ≡ iterate tried seedAfter start
+  pub in-budget : tried ≤ budget
+  pub not-more : made ≤ wanted
+  -- "It stops as done when made = wanted, otherwise as spent when tried = budget; done comes first"
+  pub done : (stop ≡ Done) ↔ (made ≡ wanted)
+  pub spent : stop ≡ Spent → tried ≡ budget
+  -- with fewer tries it had made fewer
+  pub at-once : (t : ℕ) → t < tried → length (passingFirst c weights file start t) < wanted
+
+-- a run that goes on after `made`, `tried` and `text`, both taken as one run
+abbrev pub continuing : ℕ → ℕ → List ℕ → Written → Written
+continuing made tried text (written stop made′ tried′ next text′) = written stop (made + made′) (tried + tried′) next (text ++ text′)
+
+-- 5 to 8, after 2 to 4: "file length F? Start not 0? Wanted at most 1,000,000 and buffer at least wanted times (n+1)?
+-- Number list at least D long?"
+unfoldable pub writerRefusal : Card → List ℕ → List ℕ → ℕ → ℕ → ℕ → ℕ → ℕ
+writerRefusal c weights file start wanted buffer numbers =
+    cond (eqb (cardRefusal c weights) 0)
+    (cond (eqb (length file) (c .f))
+    (cond (eqb start 0) 6
+    (cond (leb wanted 1000000 && leb (wanted * (strandBases c + 1)) buffer) (cond (leb (weightCount weights) numbers) 0 8) 7)) 5)
+    (cardRefusal c weights)
+
+-- the answer, by its cases
+abbrev pub runAnswer : Written → WriteAnswer
+runAnswer (written stop made tried next text) = answer.Written (record { stop = stop; made = made; tried = tried; next = next })
+
+abbrev pub runText : Written → List ℕ
+runText (written stop made tried next text) = text
+
+-- the promise of the writer: its answer, and its buffer and number list at exit
+pub record WriterPromise (c : Card) (weights file : List ℕ) (start wanted budget : ℕ) (out list : List ℕ) (r : WriteAnswer) (out′ list′ : List ℕ) : Type 0 where
+  pub says : r
+      ≡ cond (eqb (writerRefusal c weights file start wanted (length out) (length list)) 0) (runAnswer (writerRun c weights file start wanted budget))
+      (answer.Refused (writerRefusal c weights file start wanted (length out) (length list)))
+  -- "Bytes past made times (n+1) keep what they had"; a refusal changes nothing
+  pub prints : out′
+      ≡ cond (eqb (writerRefusal c weights file start wanted (length out) (length list)) 0)
+      (runText (writerRun c weights file start wanted budget) ++ drop (length (runText (writerRun c weights file start wanted budget))) out) out
+  -- the number list is free in its first D places alone
+  pub keeps : drop (weightCount weights) list′ ≡ drop (weightCount weights) list
+  pub untouched : eqb (writerRefusal c weights file start wanted (length out) (length list)) 0 ≡ false → list′ ≡ list

@@ -1,0 +1,48 @@
+ghost use mathlib.Core.Path.{_≡_};
+ghost use Prim.Native.Nat.{_≤_};
+ghost use lib.ListN.{length, take};
+ghost use Rattle.strand.specs.ReadCheck.{readCheck};
+ghost use Rattle.strand.specs.ReadCheck.Reading.{droplet};
+ghost use Rattle.strand.specs.CForm.{handedOver};
+ghost use Rattle.strand.specs.CForm.CAnswer.{handed};
+use crate::read_check;
+use crate::read_check::ReadOutcome;
+use crate::records;
+use droplet::card::Card;
+
+// Question 16, and then the droplet into the lent buffer.
+fn hand_over(seed: u32, l: usize, payload: &[u8], out: &mut [u8]) -> u32
+    requires { ⌜ (l ≤ 64) × (length (now payload) ≡ 64) ⌝ }
+    ensures { λ r. ⌜ handed r (now (out .exit)) ≡ handedOver l (now (out .entry)) (droplet seed (take l (now (payload .entry)))) ⌝ }
+{
+    if out.len() < 4 + l {
+        return 16;
+    }
+    records::put_record(seed, &payload[..l], out);
+    0
+}
+
+// The read check for a host written in C: 0 and the droplet in the buffer's first 4 + L bytes, or the refusal number.
+#[no_mangle]
+pub extern "C" fn fountain_check_read(
+    f: u32,
+    l: u8,
+    r: u8,
+    m: u8,
+    lo: u16,
+    hi: u16,
+    weights: &[u8],
+    read: &[u8],
+    out: &mut [u8],
+) -> u32
+    ensures { λ n. ⌜ handed n (now (out .exit)) ≡ handedOver l (now (out .entry))
+        (readCheck (record { f = f; l = l; r = r; m = m; lo = lo; hi = hi }) (now (weights .entry)) (now (read .entry))) ⌝ }
+{
+    let answer = read_check::check_read(Card { f, l, r, m, lo, hi }, weights, read);
+    let outcome = answer.outcome;
+    let payload = answer.payload;
+    match outcome {
+        ReadOutcome::Refused(n) => n as u32,
+        ReadOutcome::Droplet(seed) => hand_over(seed, l as usize, &payload, out),
+    }
+}

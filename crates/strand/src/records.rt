@@ -1,0 +1,37 @@
+ghost use mathlib.Core.Path.{_≡_};
+ghost use mathlib.Core.List.{_++_};
+ghost use Prim.Native.Nat.{_+_, _≤_};
+ghost use lib.ListN.{length, drop};
+ghost use Rattle.field.specs.Bytes.{toBigEndian};
+ghost use Rattle.strand.specs.ReadCheck.{wordSeed};
+use field::bytes;
+
+// Copies bytes to the start of a buffer.
+pub fn copy(from: &[u8], to: &mut [u8])
+    requires { ⌜ length (now from) ≤ length (now to) ⌝ }
+    ensures { λ _. ⌜ now (to .exit) ≡ now (from .entry) ++ drop (length (now (from .entry))) (now (to .entry)) ⌝ }
+{
+    let mut i = 0;
+    while i < from.len() {
+        to[i] = from[i];
+        i += 1;
+    }
+}
+
+// The seed with which a record starts, and a strand's word too.
+pub fn seed_of(word: &[u8]) -> u32
+    requires { ⌜ 4 ≤ length (now word) ⌝ }
+    ensures { λ r. ⌜ r ≡ wordSeed (now (word .entry)) ⌝ }
+{
+    bytes::join(word[0], word[1], word[2], word[3])
+}
+
+// Writes a record, seed and payload, at the start of a buffer.
+pub fn put_record(seed: u32, payload: &[u8], out: &mut [u8])
+    requires { ⌜ 4 + length (now payload) ≤ length (now out) ⌝ }
+    ensures { λ _. ⌜ now (out .exit) ≡ toBigEndian seed ++ (now (payload .entry) ++ drop (4 + length (now (payload .entry))) (now (out .entry))) ⌝ }
+{
+    let four = bytes::split(seed);
+    copy(&four, &mut *out);
+    copy(payload, &mut out[4..]);
+}
