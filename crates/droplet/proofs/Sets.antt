@@ -78,7 +78,7 @@ pick-length zero state j set = omega arith
 pick-length (suc more) state j set =
     pick-length more (afterDraw state) (suc j) _ ∙ simp length-append (omega arith)
 
-picked : (more : ℕ) (state : Draw) (j : ℕ) (set : List ℕ) → All (λ s. s < j) set → Distinct set
+pub picked : (more : ℕ) (state : Draw) (j : ℕ) (set : List ℕ) → All (λ s. s < j) set → Distinct set
     → All (λ s. s < j + more) (pickFrom more state j set) × Distinct (pickFrom more state j set)
 unfolding pickFrom
 picked zero state j set hs d = (all-below j _ set (omega arith) hs, d)

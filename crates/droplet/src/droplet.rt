@@ -24,7 +24,7 @@ pub fn degree_for(weights: &[u8], r: u32) -> usize
 }
 
 // Whether `t` is in `list`.
-fn contains(list: &[u32], t: u32) -> bool
+pub fn contains(list: &[u32], t: u32) -> bool
     ensures { λ r. ⌜ r ≡ member t (now (list .entry)) ⌝ }
 {
     let mut i = 0;
@@ -84,7 +84,7 @@ fn pick_with(mut state: Draw, k: u32, d: usize, list: &mut [u32], words: &mut [u
 
 // The first `d` places of `list` become the set of `d` segments out of `k` that the draws after `state` pick. For few segments a
 // scan is faster than a bitmap, which has to be cleared first.
-fn pick(state: Draw, k: u32, d: usize, list: &mut [u32])
+pub fn pick(state: Draw, k: u32, d: usize, list: &mut [u32])
     requires { ⌜ (k ≤ 131072) × (d ≤ k) × (d ≤ length (now list)) ⌝ }
     ensures { λ r. ⌜ now (list .exit) ≡ pickFrom d state (k - d) [] ++ drop d (now (list .entry)) ⌝ }
 {

@@ -10,3 +10,4 @@ pub mod Lines
 pub mod Turns
 pub mod WriterAnswers
 pub mod RoundTrips
+pub mod ReadAnswers

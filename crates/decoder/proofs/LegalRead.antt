@@ -1,0 +1,27 @@
+-- A read check that answers a droplet answers a seed of four bytes and a payload of L bytes. Assumes nothing.
+use mathlib.Core.Path.{_≡_, refl}
+use mathlib.Core.List.{List}
+use Prim.Native.Nat.{ℕ}
+use Rattle.droplet.specs.declared.card.Card.{Card}
+use Rattle.strand.specs.ReadCheck.{Reading, droplet, refused, readCheck}
+use Rattle.strand.proofs.LegalStrands.{accepts-exactly}
+use Rattle.decoder.specs.Shelf.{Record}
+use Rattle.decoder.proofs.RecordBytes.{IsRecord}
+
+-- what holds of the record of a reading that is a droplet
+abbrev pub InReading : (Record → Type 0) → Reading → Type 0
+InReading P (droplet s p) = P (record { seed = s; payload = p })
+InReading P (refused n) = Unit {0}
+
+-- a droplet that a record of L payload bytes holds, or a refusal
+abbrev pub Recordable : ℕ → Reading → Type 0
+Recordable L = InReading (IsRecord L)
+
+module _ (c : Card) (weights read : List ℕ) where
+  reading-recordable : (o : Reading) → readCheck c weights read ≡ o → Recordable (c .l) o
+  reading-recordable (droplet s p) e =
+      let strand = accepts-exactly c weights read s p .0 e in record { seedFits = strand .fits; size = strand .size }
+  reading-recordable (refused n) e = tt
+
+  pub read-recordable : Recordable (c .l) (readCheck c weights read)
+  read-recordable = reading-recordable (readCheck c weights read) refl

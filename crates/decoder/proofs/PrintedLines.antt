@@ -1,0 +1,137 @@
+-- A strand that the writer prints for a file spells the word of a seed that passes the screen, from 1 to 2^32 - 1.
+-- Assumes nothing.
+use mathlib.Core.Path.{_≡_, refl, sym, ap, _∙_, subst}
+use mathlib.Core.Bool.{Bool, true, false, cond, _&&_}
+use mathlib.Core.List.{List, [], _∷_, _++_, append-assoc}
+use mathlib.Core.Logic.{inl, inr}
+use Prim.Native.Nat.{ℕ, zero, suc, _+_, _*_, _^_, _<_}
+use native.Mathlib.Nat.{zero-mul, suc-mul, add-comm}
+use native.Mathlib.Omega.{arith}
+use borrow.Author.Tests.{eqb-true, eqb-false}
+use lib.Dec.{eqb, leb}
+use lib.ListN.{length, getD, take, drop}
+use lib.Seq.{take-at, drop-at, drop-drop}
+use Rattle.field.specs.Bytes.{All}
+use Rattle.field.specs.Generator.{seedAfter, seedsFrom}
+use Rattle.field.proofs.ByteLists.{all-at}
+use Rattle.field.proofs.Schedule.{step-lt, step-positive}
+use Rattle.field.proofs.Tests.{either}
+use Rattle.droplet.specs.declared.card.Card.{Card}
+use Rattle.droplet.specs.PoolCard.{weightCount, strandBases}
+use Rattle.droplet.specs.Questions.{cardRefusal}
+use Rattle.strand.specs.declared.writer.WriteAnswer.{WriteAnswer}
+use Rattle.strand.specs.declared.writer.WriteAnswer.the-variants as writer
+use Rattle.strand.specs.Letters.{wordLetters}
+use Rattle.strand.specs.Screen.{screenPasses}
+use Rattle.strand.specs.Writer.{seedWord, strandLine, Written, written, writerRun, passing, passingFirst, strandLines, writerRefusal, runAnswer, runText}
+use Rattle.strand.proofs.Spelling.{letters-length}
+use Rattle.strand.proofs.SeedWords.{word-length}
+use Rattle.strand.proofs.Runs.{run-facts}
+use Rattle.strand.proofs.Lines.{line-length}
+use Rattle.decoder.specs.Vault.{PrintedStrand}
+
+-- a seed whose strand is printed
+pub record Printable (c : Card) (ws file : List ℕ) (seed : ℕ) : Type 0 where
+  pub positive : 0 < seed
+  pub fits : seed < 2 ^ 32
+  pub passes : screenPasses c (seedWord c ws file seed) ≡ true
+
+-- the seed of a strand
+pub record SeedOf (c : Card) (ws file read : List ℕ) : Type 0 where
+  pub seed : ℕ
+  pub printable : Printable c ws file seed
+  pub spells : read ≡ wordLetters (seedWord c ws file seed)
+
+abbrev IsSeed : ℕ → Type 0
+IsSeed seed = (0 < seed) × (seed < 2 ^ 32)
+
+scheduled : (n seed : ℕ) → IsSeed seed → All IsSeed (seedsFrom n seed)
+unfolding seedsFrom
+scheduled zero seed h = tt
+scheduled (suc n) seed h = (h, scheduled n (seedAfter seed) (step-positive seed (h .0) (h .1), step-lt seed))
+
+-- how many strands an answer says were made
+abbrev madeBy : WriteAnswer → ℕ
+madeBy (writer.Written run) = run .made
+madeBy (writer.Refused n) = 0
+
+-- 6: "Start not 0?"
+asked-start : (size start room : Bool) (n : ℕ) → _≡_ {A = ℕ} (cond size (cond start 6 (cond room n 7)) 5) 0 → start ≡ false
+asked-start true false room n e = refl
+asked-start true true room n e = absurd (let z : ⊥ = omega arith in z)
+asked-start false start room n e = absurd (let z : ⊥ = omega arith in z)
+
+module _ (c : Card) (ws file : List ℕ) where
+  passing-printable : (seeds : List ℕ) → All IsSeed seeds → All (Printable c ws file) (passing c ws file seeds)
+  unfolding passing
+  passing-printable [] h = tt
+  passing-printable (seed ∷ seeds) h =
+      let rest = passing-printable seeds (h .1) in
+      elim (either (screenPasses c (seedWord c ws file seed))) [
+        | inl e ↦ rw e (record { positive = h .0 .0; fits = h .0 .1; passes = e }, rest)
+        | inr e ↦ rw e rest
+      ]
+
+  letters-long : (seed : ℕ) → length (wordLetters (seedWord c ws file seed)) ≡ strandBases c
+  letters-long seed = omega (arith, letters-length (seedWord c ws file seed), word-length c ws file seed)
+
+  -- the letters of line i
+  line-at : (seeds rest : List ℕ) (i : ℕ) → i < length seeds
+      → take (strandBases c) (drop (i * (strandBases c + 1)) (strandLines c ws file seeds ++ rest)) ≡ wordLetters (seedWord c ws file (getD seeds i 0))
+  unfolding strandLines
+  line-at [] rest i h = absurd (let z : ⊥ = omega arith in z)
+  line-at (seed ∷ seeds) rest zero h =
+      let letters = wordLetters (seedWord c ws file seed) in
+      let lines = strandLines c ws file seeds in
+      ap (λ k. take (strandBases c) (drop k ((strandLine (seedWord c ws file seed) ++ lines) ++ rest))) (zero-mul (strandBases c + 1))
+      ∙ ap (take (strandBases c)) (append-assoc (letters ++ (10 ∷ [])) lines rest ∙ append-assoc letters (10 ∷ []) (lines ++ rest))
+      ∙ take-at letters (10 ∷ (lines ++ rest)) (strandBases c) (letters-long seed)
+  line-at (seed ∷ seeds) rest (suc i) h =
+      let m = strandBases c + 1 in
+      let line = strandLine (seedWord c ws file seed) in
+      let lines = strandLines c ws file seeds in
+      ap (λ k. take (strandBases c) (drop k ((line ++ lines) ++ rest))) (suc-mul i m ∙ add-comm (i * m) m)
+      ∙ ap (take (strandBases c)) (sym (drop-drop (i * m) m ((line ++ lines) ++ rest))
+      ∙ ap (λ l. drop (i * m) (drop m l)) (append-assoc line lines rest) ∙ ap (drop (i * m)) (drop-at line (lines ++ rest) m (line-length c ws file seed)))
+      ∙ line-at seeds rest i (omega arith)
+
+  -- of what a run wrote
+  run-line : (start wanted budget : ℕ) → IsSeed start → (w : Written) → writerRun c ws file start wanted budget ≡ w → (rest : List ℕ) (i : ℕ)
+      → i < madeBy (runAnswer w) → SeedOf c ws file (take (strandBases c) (drop (i * (strandBases c + 1)) (runText w ++ rest)))
+  run-line start wanted budget s (written stop made tried next text) e rest i b =
+      let facts = run-facts c ws file start wanted budget stop made tried next text e in
+      let seeds = passingFirst c ws file start tried in
+      let h : i < length seeds = subst (λ n. i < n) (facts .counts) b in
+      record {
+        seed = getD seeds i 0;
+        printable = all-at (Printable c ws file) seeds 0 (passing-printable (seedsFrom tried start) (scheduled tried start s)) i h;
+        spells = rw (facts .prints) (line-at seeds rest i h);
+      }
+
+  module _ (fine : cardRefusal c ws ≡ 0) where
+    start-positive : (start wanted buffer numbers : ℕ) → writerRefusal c ws file start wanted buffer numbers ≡ 0 → 0 < start
+    unfolding writerRefusal
+    start-positive start wanted buffer numbers e =
+        let n = eqb-false start 0
+        (asked-start (eqb (length file) (c .f)) (eqb start 0) (leb wanted 1000000 && leb (wanted * (strandBases c + 1)) buffer)
+        (cond (leb (weightCount ws) numbers) 0 8) (rw fine at e)) in
+        omega arith
+
+    pub printed-seed : (read : List ℕ) → PrintedStrand c ws file read → SeedOf c ws file read
+    printed-seed read p =
+        let no = writerRefusal c ws file (p .start) (p .wanted) (length (p .out)) (length (p .list)) in
+        let w = writerRun c ws file (p .start) (p .wanted) (p .budget) in
+        elim (either (eqb no 0)) [
+          | inl t ↦
+              let says : writer.Written (p .run) ≡ runAnswer w = rw t at (p .wrote .says) in
+              let prints : p .out′ ≡ runText w ++ drop (length (runText w)) (p .out) = rw t at (p .wrote .prints) in
+              let positive = start-positive (p .start) (p .wanted) (length (p .out)) (length (p .list)) (eqb-true no 0 t) in
+              subst (SeedOf c ws file)
+              (sym (p .letters ∙ ap (λ (l : List ℕ). take (strandBases c) (drop (p .line * (strandBases c + 1)) l)) prints))
+              (run-line (p .start) (p .wanted) (p .budget) (positive, p .fits) w refl (drop (length (runText w)) (p .out)) (p .line)
+              (subst (λ n. p .line < n) (ap madeBy says) (p .made)))
+          | inr t ↦
+              let says : writer.Written (p .run) ≡ writer.Refused no = rw t at (p .wrote .says) in
+              let apart : _≡_ {A = ℕ} 0 1 = cc in
+              absurd (let z : ⊥ = omega arith in z)
+        ]

@@ -1,0 +1,27 @@
+-- A search of the records for a seed: found, passed, and the end. Assumes nothing.
+use mathlib.Core.Path.{_≡_}
+use mathlib.Core.Bool.{true, false}
+use mathlib.Core.List.{List}
+use Prim.Native.Nat.{ℕ, _+_, _*_, _≤_, _<_}
+use borrow.Author.Tests.{eq-eqb, ne-eqb}
+use lib.ListN.{length, take}
+use Rattle.field.specs.Bytes.{fromBigEndian}
+use Rattle.decoder.specs.Shelf.{recordFrom}
+use Rattle.decoder.specs.Restorer.{hasSeed}
+use Rattle.decoder.specs.Loops.{recordAt}
+use Rattle.decoder.proofs.RecordsAt.{recordsFrom, records-next, records-end}
+
+module _ (L count : ℕ) (shelf : List ℕ) (s i : ℕ) where
+  module _ (h : i < count) (fits : count * (4 + L) ≤ length shelf) where
+    pub seed-here : fromBigEndian (take 4 (recordAt L shelf i)) ≡ s → hasSeed s (recordsFrom L count shelf i) ≡ true
+    unfolding hasSeed recordFrom
+    seed-here e = rw (records-next L count shelf i h fits, eq-eqb _ _ e)
+
+    pub seed-past : (fromBigEndian (take 4 (recordAt L shelf i)) ≡ s → ⊥)
+        → hasSeed s (recordsFrom L count shelf i) ≡ hasSeed s (recordsFrom L count shelf (i + 1))
+    unfolding hasSeed recordFrom
+    seed-past n = rw (records-next L count shelf i h fits, ne-eqb _ _ n)
+
+  pub seed-end : count ≤ i → hasSeed s (recordsFrom L count shelf i) ≡ false
+  unfolding hasSeed
+  seed-end h = rw (records-end L count shelf i h)

@@ -1,0 +1,94 @@
+-- `find_seed` meets its contract. The loop's invariant: the search over the records that are left gives what the search over
+-- all of them does. Assumes nothing.
+use mathlib.Core.Path.{_≡_, refl, sym, _∙_}
+use mathlib.Core.List.{List}
+use Prim.Native.Nat.{ℕ, suc, _+_, _-_, _*_, _≤_}
+use native.Mathlib.Nat.{suc-mul}
+use native.Mathlib.Omega.{arith}
+use borrow.Author.Needs.{needs}
+use borrow.Author.Tests.{eq-eqb, ne-eqb}
+use lib.ListN.{length, take, drop}
+use lib.Seq.{drop-drop}
+use Rattle.field.specs.Bytes.{fromBigEndian}
+use Rattle.decoder.specs.Shelf.{Found, found, absent, recordFrom, records, findSeed}
+use Rattle.decoder.proofs.BufferParts.{rest-whole}
+use Rattle.decoder.proofs.shelf.find_seed.Statement.{statement}
+use Rattle.decoder.proofs.shelf.find_seed.Tie as tie
+
+-- what the search gives over the first n records from a place on
+abbrev sought : ℕ → ℕ → List ℕ → ℕ → ℕ → Found
+sought L seed shelf at n = findSeed seed (records L n (drop at shelf))
+
+-- a turn of the search, at the record from `at` on, with `next` records after it
+record Turn (L seed : ℕ) (shelf : List ℕ) (at left next : ℕ) : Type 0 where
+  within : at + (4 + L) ≤ length shelf
+  rest : next * (4 + L) + (at + (4 + L)) ≤ length shelf
+  hit : fromBigEndian (take 4 (drop at shelf)) ≡ seed → sought L seed shelf at left ≡ found (take L (drop (at + 4) shelf))
+  miss : (fromBigEndian (take 4 (drop at shelf)) ≡ seed → ⊥) → sought L seed shelf (at + (4 + L)) next ≡ sought L seed shelf at left
+
+turn : (L seed : ℕ) (shelf : List ℕ) (at left next : ℕ) → left ≡ suc next → left * (4 + L) + at ≤ length shelf
+    → Turn L seed shelf at left next
+unfolding records recordFrom findSeed
+turn L seed shelf at left next more fits =
+    let size : left * (4 + L) ≡ next * (4 + L) + (4 + L) = rw more (suc-mul next (4 + L)) in
+    record {
+      within = omega arith;
+      rest = omega arith;
+      hit = λ e. rw (more, eq-eqb _ _ e, drop-drop);
+      miss = λ e. rw (more, ne-eqb _ _ e, drop-drop);
+    }
+
+none : (L seed left : ℕ) (buffer : List ℕ) → left ≡ 0 → findSeed seed (records L left buffer) ≡ absent
+unfolding records findSeed
+none L seed left buffer e = rw e
+
+abbrev Inv-loop : tie.InvT-loop
+Inv-loop shelf l count seed width left₀ at₀ left at =
+    (left * (4 + l) + at ≤ length shelf) × (sought l seed shelf at left ≡ sought l seed shelf 0 count)
+
+abbrev μ-loop : tie.MeasureT-loop
+μ-loop shelf l count seed width left₀ at₀ left at = left
+
+this-turn : (c : tie.In-loop Inv-loop μ-loop) → (let args = c .before .before .before .args in
+    Turn (args .l) (args .seed) (args .shelf .now) (c .before .loop .at) (c .before .loop .left) (c .before .loop .left - 1))
+this-turn c = turn _ _ _ _ (c .before .loop .left) _ (omega arith) (c .before .loop .inv .0)
+
+loop-holds : tie.Need-loop-holds Inv-loop μ-loop
+loop-holds c = (omega arith, refl)
+
+part-seed-of-start : tie.Need-part-seed-of-start Inv-loop μ-loop
+part-seed-of-start c = let within = this-turn c .within in search needs
+
+returns : tie.Need-returns Inv-loop μ-loop
+returns c =
+    let now = c .before .before .before in
+    let seed = rw rest-whole at (c .before .seed-of .ensures) in
+    (this-turn now .within, sym (now .before .loop .inv .1) ∙ this-turn now .hit (sym seed ∙ c .if1 .taken))
+
+loop-again : tie.Need-loop-again Inv-loop μ-loop
+loop-again c =
+    let now = c .before .before .before in
+    let seed = rw rest-whole at (c .before .seed-of .ensures) in
+    (this-turn now .rest, this-turn now .miss (λ e. c .if1 .left (seed ∙ e)) ∙ now .before .loop .inv .1)
+
+returns-2 : tie.Need-returns-2 Inv-loop μ-loop
+returns-2 c = sym (c .before .loop .inv .1) ∙ none _ _ (c .before .loop .left) _ (omega arith)
+
+pub find-seed-spec : {M : Type 1} → statement M
+find-seed-spec =
+    tie.close
+    (tie.spec
+    Inv-loop
+    μ-loop
+    (λ c. search needs)
+    loop-holds
+    (λ c. search needs)
+    part-seed-of-start
+    (λ c. search needs)
+    (λ c κs. search needs)
+    returns
+    (λ c. search needs)
+    (λ c. search needs)
+    (λ c. search needs)
+    loop-again
+    returns-2)

@@ -1,0 +1,75 @@
+-- `offer` meets its contract: the droplet in the read check's answer goes to the shelf, or its refusal is handed on. Assumes nothing.
+use mathlib.Core.Path.{_≡_, refl, sym, ap, _∙_}
+use mathlib.Core.List.{List}
+use Prim.Native.Nat.{ℕ}
+use native.Mathlib.Omega.{arith}
+use borrow.Author.Needs.{needs}
+use lib.ListN.{length, take, length-take}
+use Rattle.strand.specs.ReadCheck.{Reading, refused}
+use Rattle.strand.proofs.ReadAnswers.{Accepts, accepts, refuses}
+use Rattle.decoder.specs.declared.shelf.StoreAnswer.the-variants.{Refused}
+use Rattle.decoder.specs.Shelf.{shelvedReading}
+use Rattle.decoder.specs.StoreLoops.{Keeps, refusalNumber}
+use Rattle.decoder.proofs.shelf.offer.Statement.{statement}
+use Rattle.decoder.proofs.shelf.offer.Tie as tie
+
+handed-on : (L : ℕ) (buffer : List ℕ) (count : ℕ) (reading : Reading) (n : ℕ) → reading ≡ refused n
+    → Keeps (shelvedReading L buffer count reading) (Refused n) buffer
+unfolding shelvedReading
+handed-on L buffer count reading n e = rw e (record { says = refl; leaves = refl })
+
+-- the answer holds a droplet
+legal : (c : tie.After-known-told) → (let check = c .before .before .before .before in
+    let args = check .before .before .before .before .args in
+    Accepts (args .card) (args .weights .now) (args .read .now) (c .before .outcome .given .0 .0) (check .check-read .result .payload))
+legal c = accepts _ _ _ _ (c .before .before .before .before .check-read .ensures) _ (c .before .outcome .given .1)
+
+-- of its payload array the first L bytes are lent
+size : (c : tie.After-known-told) → (let check = c .before .before .before .before in
+    let L = check .before .before .before .before .args .card .l in
+    length (take L (check .check-read .result .payload)) ≡ L)
+size c = rw (legal c .first) (legal c .legal .size)
+
+returns : tie.Need-returns
+returns c =
+    let told = c .before in
+    let check = told .before .before .before in
+    let args = check .before .before .before .before .args in
+    rw (c .refusal-of .ensures ∙ ap refusalNumber (told .enum-told .given .1))
+    (handed-on (args .card .l) (args .shelf .now) (args .count) _ _
+    (refuses _ _ _ _ (check .check-read .ensures) _ (told .enum-told .given .1)))
+
+array-share-prefix-payload : tie.Need-array-share-prefix-payload
+array-share-prefix-payload c =
+    let told = c .before .before in
+    let check = told .before .before .before .before in
+    omega (arith, size told, length-take (check .before .before .before .before .args .card .l) (check .check-read .result .payload))
+
+slice-aggregate-shelve : tie.Need-slice-aggregate-shelve
+slice-aggregate-shelve c = sym (size (c .before .before .before))
+
+shelve-requires : tie.Need-shelve-requires
+shelve-requires c κs =
+    let told = c .before .before .before in
+    rw (size told) (told .before .before .before .before .before .before .before .before .pre)
+
+returns-2 : tie.Need-returns-2
+returns-2 c =
+    let told = c .before .before .before .before .before .before in
+    rw (legal told .accepted, ← legal told .first) (rw (size told) at (c .before .before .shelve .ensures))
+
+pub offer-spec : {M : Type 1} → statement M
+offer-spec =
+    tie.close
+    (tie.spec
+    (λ c κs. search needs)
+    (λ c. search needs)
+    (λ c. search needs)
+    (λ c κs. search needs)
+    returns
+    (λ c. search needs)
+    array-share-prefix-payload
+    slice-aggregate-shelve
+    shelve-requires
+    (λ c. search needs)
+    returns-2)

@@ -1,0 +1,137 @@
+-- Document 01, "Bench examples": all starred lines, each part of each, as rows of one list under one proposition, over the
+-- definitions that the contracts cite. Assumes nothing.
+use mathlib.Core.Path.{_≡_, refl}
+use mathlib.Core.Bool.{Bool, true, false}
+use mathlib.Core.List.{List, [], _∷_}
+use Prim.Native.Nat.{ℕ, zero, suc}
+use lib.ListN.{replicate}
+use Rattle.field.specs.declared.generator.Draw.{Draw}
+use Rattle.field.specs.Bytes.{All, fromBigEndian, toBigEndian, xorLists, padded}
+use Rattle.field.specs.Shift.{shiftUp}
+use Rattle.field.specs.Generator.{ofSeed, afterDraw, numberDrawn, xorshift, seedAfter}
+use Rattle.field.specs.CheckBytes.{double, timesPower, horner, syndromes, byRoot, multiple, remainderAfter, parity}
+use Rattle.droplet.specs.declared.card.Card.{Card}
+use Rattle.droplet.specs.PoolCard.{numberAt, weightAt, firstWeights, segmentCount, strandBytes}
+use Rattle.droplet.specs.Questions.{sizesRight, limitsRight, weightsRight, cardRefusal}
+use Rattle.droplet.specs.Droplet.{degreeFrom, degree, member, pickFrom, degreeOf, segmentsOf, segment, payload}
+use Rattle.strand.specs.Letters.{letterOf, letterBits, allLetters, byteBases, wordBases, byteLetters, wordLetters, lettersByte, lettersWord}
+use Rattle.strand.specs.Screen.{longestFrom, longestRun, gcCount, withinLimits, screenPasses}
+use Rattle.strand.specs.ReadCheck.{Reading, droplet, refused, sumsZero, wordReading, lettersReading, readCheck, strandWord}
+use Rattle.strand.specs.Writer.{seedWord}
+use Rattle.decoder.specs.Shelf.{accepted, repeat, Kept, kept, recordFrom, records, sameBytes, findSeed, appended, compared, shelvedReading, shelving}
+use Rattle.decoder.specs.Shelf.Shelved.{refusal}
+use Rattle.decoder.specs.Restorer.{State, droplets, marked, missing, recovered, filled, filledBy, step, pass, present, peel, cleared, restoration, contradicts, contradictions, hasSeed, restoreRefusal, restored, Restoring, restoring, restore}
+
+-- card P with another m and lo, D weights of one value (P's are 2 of value 1), and file Q
+abbrev pub cardP : ℕ → ℕ → Card
+cardP m lo = record { f = 4; l = 1; r = 2; m = m; lo = lo; hi = 1000 }
+
+abbrev pub weights : ℕ → ℕ → List ℕ
+weights zero value = []
+weights (suc D) value = 0 ∷ 0 ∷ 0 ∷ value ∷ weights D value
+
+abbrev pub fileQ : List ℕ
+fileQ = 0x1B ∷ 0x27 ∷ 0x4E ∷ 0xE4 ∷ []
+
+-- what an example asks, with its answer
+pub data Row : Type 0 where
+  draws : ℕ → List ℕ → Row
+  picks : ℕ → List ℕ → List ℕ → Row
+  checks : List ℕ → List ℕ → Row
+  prints : ℕ → List ℕ → List ℕ → ℕ → ℕ → Row
+  reads : ℕ → ℕ → List ℕ → Reading → Row
+  steps : ℕ → ℕ → Row
+  answers : List ℕ → ℕ → Row
+  restores : List (List ℕ) → Restoring → Row
+
+-- the first numbers drawn from a state, as many as the list has
+abbrev pub drawnFrom : Draw → List ℕ → List ℕ
+drawnFrom d [] = []
+drawnFrom d (n ∷ ns) = numberDrawn (afterDraw d) ∷ drawnFrom (afterDraw d) ns
+
+-- the shelf after reads that are offered in this order
+abbrev pub counted : ℕ → Kept → ℕ
+counted count (kept (accepted n) buffer) = n
+counted count (kept (repeat n) buffer) = n
+counted count (kept (refusal q) buffer) = count
+
+abbrev pub held : Kept → List ℕ
+held (kept a buffer) = buffer
+
+abbrev pub restoredAfter : List (List ℕ) → List ℕ → ℕ → Restoring
+restoredAfter [] buffer count = restore (cardP 15 214) (weights 2 1) buffer count (9 ∷ 9 ∷ 9 ∷ 9 ∷ []) (9 ∷ 9 ∷ 9 ∷ 9 ∷ []) 2
+restoredAfter (r ∷ rs) buffer count =
+    let after = shelving (cardP 15 214) (weights 2 1) buffer count r in restoredAfter rs (held after) (counted count after)
+
+abbrev pub Holds : Row → Type 0
+Holds (draws s ns) = drawnFrom (ofSeed s) ns ≡ ns
+Holds (picks seed set order) =
+    (segmentsOf (weights 2 1) (segmentCount (cardP 15 214)) seed ≡ order) × All (λ s. member s order ≡ member s set) (0 ∷ 1 ∷ 2 ∷ 3 ∷ [])
+Holds (checks message bytes) = parity 2 message ≡ bytes
+Holds (prints seed word letters longest g) =
+    (seedWord (cardP 15 214) (weights 2 1) fileQ seed ≡ word)
+    × (wordLetters word ≡ letters) × (longestRun (wordBases word) ≡ longest) × (gcCount (wordBases word) ≡ g)
+Holds (reads m lo letters reading) = readCheck (cardP m lo) (weights 2 1) letters ≡ reading
+Holds (steps s t) = seedAfter s ≡ t
+Holds (answers ws n) = cardRefusal (cardP 15 214) ws ≡ n
+Holds (restores offered end) = restoredAfter offered (replicate 20 7) 0 ≡ end
+
+-- the strands of seeds 1, 2 and 3
+abbrev pub letters1 : List ℕ
+letters1 =
+    65 ∷ 65 ∷ 65 ∷ 65 ∷ 65 ∷ 65 ∷ 65 ∷ 65 ∷ 65 ∷ 65 ∷ 65 ∷ 65 ∷ 65 ∷ 65 ∷ 65 ∷ 67 ∷ 84 ∷ 71 ∷ 67 ∷ 65 ∷ 65 ∷ 84 ∷ 67 ∷ 71 ∷ 84 ∷ 67 ∷ 65 ∷ 84 ∷ []
+
+abbrev pub letters2 : List ℕ
+letters2 =
+    65 ∷ 65 ∷ 65 ∷ 65 ∷ 65 ∷ 65 ∷ 65 ∷ 65 ∷ 65 ∷ 65 ∷ 65 ∷ 65 ∷ 65 ∷ 65 ∷ 65 ∷ 71 ∷ 67 ∷ 71 ∷ 71 ∷ 67 ∷ 71 ∷ 84 ∷ 67 ∷ 67 ∷ 84 ∷ 67 ∷ 84 ∷ 71 ∷ []
+
+abbrev pub letters3 : List ℕ
+letters3 =
+    65 ∷ 65 ∷ 65 ∷ 65 ∷ 65 ∷ 65 ∷ 65 ∷ 65 ∷ 65 ∷ 65 ∷ 65 ∷ 65 ∷ 65 ∷ 65 ∷ 65 ∷ 84 ∷ 65 ∷ 71 ∷ 67 ∷ 84 ∷ 67 ∷ 71 ∷ 65 ∷ 65 ∷ 67 ∷ 65 ∷ 67 ∷ 65 ∷ []
+
+abbrev pub rows : List Row
+rows =
+    draws 1 (632806 ∷ 68359563 ∷ [])
+    ∷ picks 1 (3 ∷ []) (3 ∷ [])
+    ∷ picks 2 (1 ∷ 2 ∷ []) (2 ∷ 1 ∷ [])
+    ∷ picks 3 (1 ∷ []) (1 ∷ [])
+    ∷ checks (0x01 ∷ []) (0x03 ∷ 0x02 ∷ [])
+    ∷ checks (0x01 ∷ 0x00 ∷ []) (0x07 ∷ 0x06 ∷ [])
+    ∷ prints 1 (0x00 ∷ 0x00 ∷ 0x00 ∷ 0x01 ∷ 0xE4 ∷ 0x36 ∷ 0xD3 ∷ []) letters1 15 6
+    ∷ reads 15 214 letters1 (droplet 1 (0xE4 ∷ []))
+    ∷ reads 14 214 letters1 (refused 13)
+    ∷ reads 15 215 letters1 (refused 13)
+    ∷ steps 0x80000000 0x000000C5
+    ∷ steps 0x00000001 0x00000002
+    ∷ reads 15 214 (replicate 28 65) (refused 12)
+    ∷ answers (weights 4 1) 0
+    ∷ answers (weights 5 1) 4
+    ∷ answers (weights 2 0) 4
+    ∷ restores (letters2 ∷ letters1 ∷ letters3 ∷ [])
+    (restoring (restored 3 3 0) (record { file = 0x00 ∷ 0x27 ∷ 0x4E ∷ 0xE4 ∷ []; marks = 0 ∷ 1 ∷ 1 ∷ 1 ∷ [] }))
+    ∷ []
+
+pub examples : All Holds rows
+unfolding seedAfter seedWord segmentsOf degreeOf degree degreeFrom pickFrom member ofSeed afterDraw numberDrawn xorshift segment payload padded strandWord toBigEndian fromBigEndian parity remainderAfter xorLists multiple byRoot timesPower double shiftUp horner syndromes cardRefusal sizesRight limitsRight weightsRight segmentCount strandBytes firstWeights weightAt numberAt letterOf letterBits allLetters byteBases wordBases byteLetters wordLetters lettersByte lettersWord longestFrom longestRun gcCount withinLimits screenPasses sumsZero wordReading lettersReading readCheck recordFrom records sameBytes findSeed appended compared shelvedReading shelving droplets marked missing recovered filled filledBy step pass present peel cleared restoration contradicts contradictions hasSeed restoreRefusal restore
+examples = (
+  refl,
+  (
+    (refl, (refl, (refl, (refl, (refl, tt))))),
+    (
+      (refl, (refl, (refl, (refl, (refl, tt))))),
+      (
+        (refl, (refl, (refl, (refl, (refl, tt))))),
+        (
+          refl,
+          (
+            refl,
+            (
+              (refl, refl, refl, refl),
+              (refl, (refl, (refl, (refl, (refl, (refl, (refl, (refl, (refl, (refl, tt)))))))))),
+            ),
+          ),
+        ),
+      ),
+    ),
+  ),
+)

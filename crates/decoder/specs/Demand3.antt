@@ -1,0 +1,131 @@
+-- Demand 3, as one claim about every list of shelving calls and every restore under one accepted card. Assumes nothing.
+use mathlib.Core.Path.{_≡_}
+use mathlib.Core.Logic.{_↔_}
+use mathlib.Core.Bool.{Bool, true, false, cond}
+use mathlib.Core.List.{List, [], _∷_, _++_}
+use Prim.Native.Nat.{ℕ, suc, _+_, _*_, _/_, _<_, _≤_}
+use lib.ListN.{length, take, drop}
+use Rattle.field.specs.Bytes.{All, AllBytes}
+use Rattle.droplet.specs.declared.card.Card.{Card}
+use Rattle.droplet.specs.PoolCard.{segmentCount, cardWeights}
+use Rattle.droplet.specs.Questions.{accepted, cardReading}
+use Rattle.droplet.specs.Droplet.{segment, payload, segmentsOf, Distinct}
+use Rattle.strand.specs.ReadCheck.{Reading, droplet, refused, readCheck}
+use Rattle.decoder.specs.declared.shelf.StoreAnswer.{StoreAnswer}
+use Rattle.decoder.specs.declared.shelf.StoreAnswer.the-variants as store
+use Rattle.decoder.specs.declared.restorer.Sheet.{Sheet}
+use Rattle.decoder.specs.declared.restorer.RestoreAnswer.the-variants as sheet
+use Rattle.decoder.specs.Shelf.{Record, recordsText, StorePromise}
+use Rattle.decoder.specs.Restorer.{Droplet, droplets, marked, hasSeed, present, RestorePromise}
+
+-- ---- the shelf
+
+-- "keep the legal ones", in the order offered
+abbrev pub keptReading : Reading → List Record → List Record
+keptReading (droplet s p) rest = record { seed = s; payload = p } ∷ rest
+keptReading (refused n) rest = rest
+
+unfoldable pub legalReads : Card → List ℕ → List (List ℕ) → List Record
+legalReads c weights [] = []
+legalReads c weights (r ∷ rs) = keptReading (readCheck c weights r) (legalReads c weights rs)
+
+-- "whose seed no earlier legal one has", where `seen` went before
+unfoldable pub firstOfSeed : List Record → List Record → List Record
+firstOfSeed seen [] = []
+firstOfSeed seen (r ∷ rs) = cond (hasSeed (r .seed) seen) (firstOfSeed seen rs) (r ∷ firstOfSeed (seen ++ (r ∷ [])) rs)
+
+-- "and of these only the first ones, as many as whole records fit the buffer"
+unfoldable pub shelfRecords : Card → List ℕ → List ℕ → List (List ℕ) → List Record
+shelfRecords c weights lent reads = take (length lent / (4 + c .l)) (firstOfSeed [] (legalReads c weights reads))
+
+-- "The count is their number, the records have their seeds and payloads in that order, and the bytes past the records are
+-- as they were lent"
+pub record Holds (L : ℕ) (lent : List ℕ) (rs : List Record) (buffer : List ℕ) (count : ℕ) : Type 0 where
+  pub number : count ≡ length rs
+  pub bytes : buffer ≡ recordsText rs ++ drop (length rs * (4 + L)) lent
+
+-- one shelving call: the read offered, the answer, and the buffer after it
+pub record Call : Type 0 where
+  pub read : List ℕ
+  pub answer : StoreAnswer
+  pub buffer : List ℕ
+
+abbrev pub readsOf : List Call → List (List ℕ)
+readsOf [] = []
+readsOf (k ∷ ks) = k .read ∷ readsOf ks
+
+-- "Every answer but a refusal carries the count after it, which the next call is handed; after a refusal the next call is
+-- handed the count from before"
+abbrev pub nextCount : ℕ → StoreAnswer → ℕ
+nextCount count (store.Accepted n) = n
+nextCount count (store.Repeat n) = n
+nextCount count (store.Refused q) = count
+
+-- "Each call is handed shelf and count as the one before left them", and keeps the promise of the shelving call
+unfoldable pub Chained : Card → List ℕ → List ℕ → ℕ → List Call → Type 0
+Chained c weights buffer count [] = Unit {0}
+Chained c weights buffer count (k ∷ ks) =
+    StorePromise c weights buffer count (k .read) (k .answer) (k .buffer)
+    × Chained c weights (k .buffer) (nextCount count (k .answer)) ks
+
+abbrev pub lastBuffer : List ℕ → List Call → List ℕ
+lastBuffer buffer [] = buffer
+lastBuffer buffer (k ∷ ks) = lastBuffer (k .buffer) ks
+
+abbrev pub lastCount : ℕ → List Call → ℕ
+lastCount count [] = count
+lastCount count (k ∷ ks) = lastCount (nextCount count (k .answer)) ks
+
+-- ---- the restore
+
+-- how many segments of a list lie in a set of segments
+unfoldable pub hits : (ℕ → Bool) → List ℕ → ℕ
+hits S [] = 0
+hits S (s ∷ ss) = cond (S s) (suc (hits S ss)) (hits S ss)
+
+-- "no droplet on the shelf has exactly one segment in that set"
+unfoldable pub Stalls : (ℕ → Bool) → List Droplet → Type 0
+Stalls S ds = All (λ d. hits S (d .segments) ≡ 1 → ⊥) ds
+
+-- "any K whole segments are a file there"
+pub record IsFile (K L : ℕ) (g : List ℕ) : Type 0 where
+  pub size : length g ≡ K * L
+  pub bytes : AllBytes g
+
+-- "A file gives a droplet if the XOR of the file's segments in that set is the payload"
+unfoldable pub GivesAll : ℕ → List ℕ → List Droplet → Type 0
+GivesAll L g ds = All (λ d. payload L g (d .segments) ≡ d .payload) ds
+
+-- what a restore that answers p present, s sweeps and x contradictions leaves
+pub record Sound (K L : ℕ) (ds : List Droplet) (p s x : ℕ) (file′ marks′ : List ℕ) : Type 0 where
+  -- "leaves a segment missing exactly when some set of segments holds it and no droplet has exactly one segment in that set"
+  pub missing-when : (i : ℕ) → i < K → (marked marks′ i ≡ false) ↔ ((S : ℕ → Bool) × (S i ≡ true) × Stalls S ds)
+  -- "Every segment it leaves present equals that segment in every file that gives all these droplets"
+  pub present-right : (g : List ℕ) → IsFile K L g → GivesAll L g ds
+      → (i : ℕ) → i < K → marked marks′ i ≡ true → segment L file′ i ≡ segment L g i
+  -- "The sweeps it answers are at most the segments it answers as present, plus one"
+  pub few-passes : s ≤ p + 1
+  -- "present (marks set)"
+  pub counted : p ≡ present K marks′
+  -- "With all K present, contradictions are 0 exactly when some list of K segments gives every record"
+  pub whole : p ≡ K → (x ≡ 0) ↔ ((g : List ℕ) × IsFile K L g × GivesAll L g ds)
+
+-- ---- the claim
+
+pub record Claim (c : Card) (weights : List ℕ) : Type 0 where
+  -- every list of shelving calls from an empty shelf, a buffer of any length and bytes
+  pub shelf : (lent : List ℕ) (calls : List Call) → Chained c weights lent 0 calls
+      → Holds (c .l) lent (shelfRecords c weights lent (readsOf calls)) (lastBuffer lent calls) (lastCount 0 calls)
+  -- such a list of calls exists for every list of reads, whatever bytes each offers
+  pub calls : (lent : List ℕ) (reads : List (List ℕ)) → (calls : List Call) × Chained c weights lent 0 calls × (readsOf calls ≡ reads)
+  -- the sets that seeds pick hold each segment once, and only segments of the pool
+  pub sets : (seed : ℕ) → All (λ s. s < segmentCount c) (segmentsOf weights (segmentCount c) seed)
+      × Distinct (segmentsOf weights (segmentCount c) seed)
+  -- every restore that is not refused, over this shelf or any other
+  pub back : (buffer : List ℕ) (count : ℕ) (file marks list : List ℕ) (r : Sheet) (file′ marks′ list′ : List ℕ) → AllBytes buffer
+      → RestorePromise c weights buffer count file marks list (sheet.Restored r) file′ marks′ list′
+      → Sound (segmentCount c) (c .l) (droplets c weights buffer count) (r .present) (r .passes) (r .contradictions) file′ marks′
+
+-- "under one accepted card": one that the card reader does not refuse, its numbers and weights handed to every call
+abbrev pub Demand3 : Type 0
+Demand3 = (card : List ℕ) (c : Card) (D : ℕ) → cardReading card ≡ accepted c D → Claim c (cardWeights card)

@@ -1,0 +1,7 @@
+pub mod Shelf
+pub mod Restorer
+pub mod Demand3
+pub mod Vault
+pub mod Loops
+pub mod StoreLoops
+pub mod BenchExamples

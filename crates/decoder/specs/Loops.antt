@@ -1,0 +1,93 @@
+-- What the contracts of the restorer's private functions cite. No sentence of document 01 stands here. Assumes nothing.
+use mathlib.Core.Path.{_≡_}
+use mathlib.Core.Bool.{cond, _&&_}
+use mathlib.Core.List.{List, [], _∷_, map}
+use Prim.Native.Nat.{ℕ, _+_, _*_, _≤_, _<_}
+use lib.Dec.{eqb, leb}
+use lib.ListN.{length, take, drop}
+use Rattle.field.specs.Bytes.{All}
+use Rattle.droplet.specs.declared.card.Plan.{Plan}
+use Rattle.droplet.specs.PoolCard.{weightCount}
+use Rattle.droplet.specs.Droplet.{degreeOf, segmentsOf}
+use Rattle.droplet.specs.Loops.{Drawable}
+use Rattle.decoder.specs.declared.restorer.Unmarked.{Unmarked}
+use Rattle.decoder.specs.declared.restorer.Unmarked.the-variants as unmarked
+use Rattle.decoder.specs.declared.restorer.Drawn.{Drawn}
+use Rattle.decoder.specs.declared.restorer.Peeling.{Peeling}
+use Rattle.decoder.specs.declared.restorer.Sheet.{Sheet}
+use Rattle.decoder.specs.Shelf.{Record, records, countFits}
+use Rattle.decoder.specs.Restorer.{Droplet, State, missing, present, Peeled, peeled, peeledState, hasSeed, restored, sheetOf}
+
+-- the bytes of record i of a shelf
+unfoldable pub recordAt : ℕ → List ℕ → ℕ → List ℕ
+recordAt L shelf i = take (4 + L) (drop (i * (4 + L)) shelf)
+
+-- the droplet of a record, and those of the first records of a shelf, by the numbers of a card
+unfoldable pub dropletOf : List ℕ → ℕ → Record → Droplet
+dropletOf weights K r = record { segments = segmentsOf weights K (r .seed); payload = r .payload }
+
+unfoldable pub dropletsOf : List ℕ → ℕ → ℕ → ℕ → List ℕ → List Droplet
+dropletsOf weights K L count shelf = map (dropletOf weights K) (records L count shelf)
+
+-- the missing segments of a set, as far as a step asks: none, one or more
+unfoldable pub unmarkedOf : List ℕ → Unmarked
+unmarkedOf [] = unmarked.None
+unmarkedOf (i ∷ []) = unmarked.One i
+unmarkedOf (i ∷ (j ∷ rest)) = unmarked.Several
+
+-- what is found so far, with one unmarked segment more, and with one of a given mark
+abbrev pub oneMore : Unmarked → ℕ → Unmarked
+oneMore unmarked.None s = unmarked.One s
+oneMore (unmarked.One i) s = unmarked.Several
+oneMore unmarked.Several s = unmarked.Several
+
+unfoldable pub lookedAt : Unmarked → ℕ → ℕ → Unmarked
+lookedAt found s mark = cond (eqb mark 1) found (oneMore found s)
+
+-- each segment of a list is one of n
+unfoldable pub AllBelow : ℕ → List ℕ → Type 0
+AllBelow n = All (λ s. s < n)
+
+-- the marks of a set were looked at: unless several are missing it stands in the front of the list, and what is past its d
+-- places is as it was
+pub record Looked (set marks : List ℕ) (d : ℕ) (before after : List ℕ) (r : Unmarked) : Type 0 where
+  pub found : r ≡ unmarkedOf (missing marks set)
+  pub front : (r ≡ unmarked.Several → ⊥) → take (length set) after ≡ set
+  pub rest : drop d after ≡ drop d before
+
+-- the same of the set that a seed picks, with its degree
+pub record Seen (weights : List ℕ) (K seed : ℕ) (marks before after : List ℕ) (r : Drawn) : Type 0 where
+  pub degree : r .degree ≡ degreeOf weights seed
+  pub looked : Looked (segmentsOf weights K seed) marks (r .degree) before after (r .unmarked)
+
+-- weights with their sum out of which sets can be picked into a list, and buffers for K segments of L bytes
+pub record Room (plan : Plan) (L : ℕ) (weights file marks list : List ℕ) : Type 0 where
+  pub drawable : Drawable weights (plan .segments) (plan .sum) list
+  pub narrow : L ≤ 64
+  pub marksFit : plan .segments ≤ length marks
+  pub fileFits : plan .segments * L ≤ length file
+
+-- file and marks have become a state with n more of K segments present, and the number list changed in its first places alone
+pub record Filled (K : ℕ) (weights : List ℕ) (end : State) (marks list file′ marks′ list′ : List ℕ) (n : ℕ) : Type 0 where
+  pub state : record { file = file′; marks = marks′ } ≡ end
+  pub count : present K marks′ ≡ present K marks + n
+  pub rest : drop (weightCount weights) list′ ≡ drop (weightCount weights) list
+
+-- the passes have ended, with this many of K segments present
+pub record Ended (K : ℕ) (weights : List ℕ) (end : Peeled) (list file′ marks′ list′ : List ℕ) (r : Peeling) : Type 0 where
+  pub state : peeled (r .passes) (record { file = file′; marks = marks′ }) ≡ end
+  pub count : r .present ≡ present K marks′
+  pub rest : drop (weightCount weights) list′ ≡ drop (weightCount weights) list
+
+-- the sheet of the passes' end
+pub record Recovered (K L : ℕ) (weights : List ℕ) (ds : List Droplet) (end : Peeled) (list file′ marks′ list′ : List ℕ) (r : Sheet) : Type 0 where
+  pub sheet : restored (r .present) (r .passes) (r .contradictions) ≡ sheetOf K L ds end
+  pub state : record { file = file′; marks = marks′ } ≡ peeledState end
+  pub rest : drop (weightCount weights) list′ ≡ drop (weightCount weights) list
+
+-- the questions 14, 17, 18 and 8, by K, L and D
+unfoldable pub laterRefusal : ℕ → ℕ → ℕ → List ℕ → ℕ → ℕ → ℕ → ℕ → ℕ
+laterRefusal K L D shelf count fileLength marksLength listLength =
+    cond (countFits L shelf count)
+    (cond (hasSeed 0 (records L count shelf)) 17
+    (cond (leb (K * L) fileLength && leb K marksLength) (cond (leb D listLength) 0 8) 18)) 14

@@ -1,0 +1,32 @@
+-- What the contracts of the store's private functions cite. No sentence of document 01 stands here. Assumes nothing.
+use mathlib.Core.Path.{_≡_}
+use mathlib.Core.List.{List}
+use Prim.Native.Nat.{ℕ, _+_, _*_, _≤_}
+use lib.ListN.{length, take, drop}
+use Rattle.strand.specs.declared.read_check.ReadOutcome.{ReadOutcome}
+use Rattle.strand.specs.declared.read_check.ReadOutcome.the-variants as outcome
+use Rattle.decoder.specs.declared.shelf.Place.{Place}
+use Rattle.decoder.specs.declared.shelf.Place.the-variants.{At, Nowhere}
+use Rattle.decoder.specs.declared.shelf.StoreAnswer.{StoreAnswer}
+use Rattle.decoder.specs.Shelf.{Kept, found, absent, findSeed, records, storeAnswer, keptAnswer, keptBuffer}
+
+-- a shelf of `count` records with L payload bytes each
+pub record Within (L count : ℕ) (buffer : List ℕ) : Type 0 where
+  pub short : L ≤ 64
+  pub fits : count * (4 + L) ≤ length buffer
+
+-- what a place says of the search for a seed: the record that starts there is the first of that seed, or none has it
+abbrev pub Sought : ℕ → ℕ → List ℕ → ℕ → Place → Type 0
+Sought L count buffer seed (At at) =
+    (at + (4 + L) ≤ length buffer) × (findSeed seed (records L count buffer) ≡ found (take L (drop (at + 4) buffer)))
+Sought L count buffer seed Nowhere = findSeed seed (records L count buffer) ≡ absent
+
+-- the answer and the buffer after it are those of a shelving step
+pub record Keeps (k : Kept) (r : StoreAnswer) (buffer′ : List ℕ) : Type 0 where
+  pub says : storeAnswer r ≡ keptAnswer k
+  pub leaves : buffer′ ≡ keptBuffer k
+
+-- the number of the question that refused a read, or 0
+abbrev pub refusalNumber : ReadOutcome → ℕ
+refusalNumber (outcome.Droplet s) = 0
+refusalNumber (outcome.Refused n) = n

@@ -1,0 +1,476 @@
+ghost use mathlib.Core.Path.{_≡_};
+ghost use mathlib.Core.List.{[]};
+ghost use Prim.Native.Nat.{suc, _+_, _-_, _*_, _%_, _≤_, _<_};
+ghost use lib.ListN.{length, take, drop, replicate};
+ghost use Rattle.field.specs.Bytes.{fromBigEndian, xorLists, padded};
+ghost use Rattle.field.specs.Generator.{numberDrawn};
+ghost use Rattle.droplet.specs.PoolCard.{weightCount};
+ghost use Rattle.droplet.specs.Droplet.{joining, pickFrom, payload};
+ghost use Rattle.droplet.specs.Loops.{Drawable};
+ghost use Rattle.decoder.specs.Shelf.{recordFrom, records, sameBytes};
+ghost use Rattle.decoder.specs.Restorer.{missing, recovered, filled, step, pass, present, peel, restoration, contradicts, contradictions, hasSeed, RestorePromise};
+ghost use Rattle.decoder.specs.Loops.{recordAt, dropletOf, dropletsOf, unmarkedOf, lookedAt, AllBelow, Looked, Seen, Room, Filled, Ended, Recovered, laterRefusal};
+use droplet::card::Card;
+use droplet::card::Plan;
+use droplet::card::PlanAnswer;
+use droplet::card::check_plan;
+use droplet::droplet::contains;
+use droplet::droplet::degree_for;
+use droplet::droplet::payload_of;
+use droplet::droplet::pick;
+use droplet::droplet::xor_into;
+use droplet::droplet::xor_segment;
+use field::bytes::join;
+use field::generator::Draw;
+
+// What a restore found: segments present, passes over the records, and records that contradict the segments.
+pub struct Sheet {
+    pub present: u32,
+    pub passes: u32,
+    pub contradictions: usize,
+}
+
+pub enum RestoreAnswer {
+    Restored(Sheet),
+    Refused(u8),
+}
+
+// Which segments of a set are unmarked, as far as a step asks.
+pub enum Unmarked {
+    None,
+    One(u32),
+    Several,
+}
+
+// What drawing a record's set finds: its degree, and which of its segments are unmarked.
+pub struct Drawn {
+    pub degree: usize,
+    pub unmarked: Unmarked,
+}
+
+// What the passes came to: marks set, and passes.
+pub struct Peeling {
+    pub present: u32,
+    pub passes: u32,
+}
+
+// Record `i` of the shelf: seed and payload.
+fn record_at(shelf: &[u8], l: usize, i: usize) -> &[u8]
+    requires { ⌜ (l ≤ 64) × (i * (4 + l) + (4 + l) ≤ length (now shelf)) ⌝ }
+    ensures { λ r. ⌜ now r ≡ recordAt l (now (shelf .entry)) i ⌝ }
+{
+    let width = 4 + l;
+    let a = i * width;
+    let e = a + width;
+    &shelf[a..e]
+}
+
+// The seed of a record.
+fn seed_of(bytes: &[u8]) -> u32
+    requires { ⌜ 4 ≤ length (now bytes) ⌝ }
+    ensures { λ r. ⌜ r ≡ fromBigEndian (take 4 (now (bytes .entry))) ⌝ }
+{
+    join(bytes[0], bytes[1], bytes[2], bytes[3])
+}
+
+// Question 17: whether one of the first `count` records has seed 0.
+fn has_seed_zero(shelf: &[u8], l: usize, count: usize) -> bool
+    requires { ⌜ (l ≤ 64) × (count * (4 + l) ≤ length (now shelf)) ⌝ }
+    ensures { λ r. ⌜ r ≡ hasSeed 0 (records l count (now (shelf .entry))) ⌝ }
+{
+    let mut i = 0;
+    while i < count {
+        if seed_of(record_at(shelf, l, i)) == 0 {
+            return true;
+        }
+        i += 1;
+    }
+    false
+}
+
+fn clear(part: &mut [u8])
+    ensures { λ r. ⌜ now (part .exit) ≡ replicate (length (now (part .entry))) 0 ⌝ }
+{
+    let mut i = 0;
+    while i < part.len() {
+        part[i] = 0;
+        i += 1;
+    }
+}
+
+// What is found once segment `s` with this mark is looked at too.
+fn look_at(found: Unmarked, s: u32, mark: u8) -> Unmarked
+    ensures { λ r. ⌜ r ≡ lookedAt found s mark ⌝ }
+{
+    if mark == 1 {
+        return found;
+    }
+    match found {
+        Unmarked::None => Unmarked::One(s),
+        Unmarked::One(_) => Unmarked::Several,
+        Unmarked::Several => Unmarked::Several,
+    }
+}
+
+// Which segments of `list` are unmarked. It stops at the second.
+fn find_unmarked(marks: &[u8], list: &[u32]) -> Unmarked
+    requires { ⌜ AllBelow (length (now marks)) (now list) ⌝ }
+    ensures { λ r. ⌜ r ≡ unmarkedOf (missing (now (marks .entry)) (now (list .entry))) ⌝ }
+{
+    let mut found = Unmarked::None;
+    let mut i = 0;
+    while i < list.len() {
+        let s = list[i];
+        let m = s as usize;
+        let next = look_at(found, s, marks[m]);
+        if let Unmarked::Several = next {
+            return Unmarked::Several;
+        }
+        found = next;
+        i += 1;
+    }
+    found
+}
+
+// The segment that joins those of `list` by the draw that ended in `state`.
+fn joining_segment(state: Draw, j: u32, list: &[u32]) -> u32
+    requires { ⌜ j < 131072 ⌝ }
+    ensures { λ r. ⌜ r ≡ joining (now (list .entry)) j (numberDrawn state % (j + 1)) ⌝ }
+{
+    let t = state.number() % (j + 1);
+    if contains(list, t) { j } else { t }
+}
+
+// Draws the first `n` of the `d` segments of a set, and looks at the mark of each as it joins. At the second unmarked one it
+// stops: the record is of no use in this pass.
+fn draw_front(
+    mut state: Draw,
+    k: u32,
+    d: usize,
+    n: usize,
+    marks: &[u8],
+    list: &mut [u32],
+) -> Unmarked
+    requires { ⌜ (k ≤ 131072) × (d ≤ k) × (n ≤ d) × (d ≤ length (now list)) × (k ≤ length (now marks)) ⌝ }
+    ensures { λ r. ⌜ Looked (take n (pickFrom d state (k - d) [])) (now (marks .entry)) d (now (list .entry)) (now (list .exit)) r ⌝ }
+{
+    let mut j = k - (d as u32);
+    let mut found = Unmarked::None;
+    let mut i = 0;
+    while i < n {
+        state = state.next();
+        let s = joining_segment(state, j, &list[..i]);
+        list[i] = s;
+        let m = s as usize;
+        let next = look_at(found, s, marks[m]);
+        if let Unmarked::Several = next {
+            return Unmarked::Several;
+        }
+        found = next;
+        j += 1;
+        i += 1;
+    }
+    found
+}
+
+// The set of `d` segments out of `k` that the draws after `state` pick, and which of them are unmarked. Most records that are of
+// no use show it in their first segments; the others are drawn whole.
+fn draw_set(state: Draw, k: u32, d: usize, marks: &[u8], list: &mut [u32]) -> Unmarked
+    requires { ⌜ (k ≤ 131072) × (d ≤ k) × (d ≤ length (now list)) × (k ≤ length (now marks)) ⌝ }
+    ensures { λ r. ⌜ Looked (pickFrom d state (k - d) []) (now (marks .entry)) d (now (list .entry)) (now (list .exit)) r ⌝ }
+{
+    if d <= 16 {
+        return draw_front(state, k, d, d, marks, list);
+    }
+    if let Unmarked::Several = draw_front(state, k, d, 16, marks, list) {
+        return Unmarked::Several;
+    }
+    pick(state, k, d, list);
+    find_unmarked(marks, &list[..d])
+}
+
+// The set of a record, and which of its segments are unmarked.
+fn draw_record(bytes: &[u8], plan: Plan, weights: &[u8], marks: &[u8], list: &mut [u32]) -> Drawn
+    requires { ⌜ (4 ≤ length (now bytes)) × Drawable (now weights) (plan .segments) (plan .sum) (now list) × (plan .segments ≤ length (now marks)) ⌝ }
+    ensures { λ r. ⌜ Seen (now (weights .entry)) (plan .segments) (fromBigEndian (take 4 (now (bytes .entry)))) (now (marks .entry)) (now (list .entry)) (now (list .exit)) r ⌝ }
+{
+    let first = Draw::of_seed(seed_of(bytes)).next();
+    let degree = degree_for(weights, first.number() % plan.sum);
+    let unmarked = draw_set(first, plan.segments, degree, marks, list);
+    Drawn { degree, unmarked }
+}
+
+// The stored payload XOR the marked segments of `list`, as 64 bytes, those past `l` being 0.
+fn xor_marked(stored: &[u8], l: usize, list: &[u32], file: &[u8], marks: &[u8]) -> [u8; 64]
+    requires { ⌜ (l ≤ 64) × (length (now stored) ≡ l) × AllBelow (length (now marks)) (now list) ⌝ }
+    ensures { λ p. ⌜ p ≡ padded 64 (xorLists (now (stored .entry)) (payload l (now (file .entry)) (recovered (now (marks .entry)) (now (list .entry))))) ⌝ }
+{
+    let mut p = [0u8; 64];
+    xor_into(&mut p, stored);
+    let mut i = 0;
+    while i < list.len() {
+        let s = list[i];
+        let m = s as usize;
+        if marks[m] == 1 {
+            xor_segment(&mut p, file, l, s);
+        }
+        i += 1;
+    }
+    p
+}
+
+// `part` becomes the front of `bytes`.
+fn copy_front(part: &mut [u8], bytes: &[u8])
+    requires { ⌜ length (now part) ≤ length (now bytes) ⌝ }
+    ensures { λ r. ⌜ now (part .exit) ≡ take (length (now (part .entry))) (now (bytes .entry)) ⌝ }
+{
+    let mut i = 0;
+    while i < part.len() {
+        part[i] = bytes[i];
+        i += 1;
+    }
+}
+
+// Segment `s`, the one that is unmarked among those of `list`, becomes the stored payload XOR the marked ones, and is marked.
+fn fill(s: u32, stored: &[u8], l: usize, list: &[u32], file: &mut [u8], marks: &mut [u8])
+    requires { ⌜ (l ≤ 64) × (length (now stored) ≡ l) × AllBelow (length (now marks)) (now list) × (s * l + l ≤ length (now file)) × (s < length (now marks)) ⌝ }
+    ensures { λ r. ⌜ record { file = now (file .exit); marks = now (marks .exit) } ≡ filled l (record { segments = now (list .entry); payload = now (stored .entry) }) (record { file = now (file .entry); marks = now (marks .entry) }) s ⌝ }
+{
+    let p = xor_marked(stored, l, list, file, marks);
+    let a = (s as usize) * l;
+    let e = a + l;
+    copy_front(&mut file[a..e], &p);
+    let m = s as usize;
+    marks[m] = 1;
+}
+
+// A record's turn in a pass. How many segments it fills: one if just one of its own is unmarked.
+fn step_record(
+    bytes: &[u8],
+    plan: Plan,
+    l: usize,
+    weights: &[u8],
+    file: &mut [u8],
+    marks: &mut [u8],
+    list: &mut [u32],
+) -> u32
+    requires { ⌜ (length (now bytes) ≡ 4 + l) × Room plan l (now weights) (now file) (now marks) (now list) ⌝ }
+    ensures { λ r. ⌜ Filled (plan .segments) (now (weights .entry))
+        (step l (dropletOf (now (weights .entry)) (plan .segments) (recordFrom l (now (bytes .entry)))) (record { file = now (file .entry); marks = now (marks .entry) }))
+        (now (marks .entry)) (now (list .entry)) (now (file .exit)) (now (marks .exit)) (now (list .exit)) r ⌝ }
+{
+    let drawn = draw_record(bytes, plan, weights, marks, list);
+    let d = drawn.degree;
+    let unmarked = drawn.unmarked;
+    let Unmarked::One(s) = unmarked else {
+        return 0;
+    };
+    fill(s, &bytes[4..], l, &list[..d], file, marks);
+    1
+}
+
+// One pass over the records, in shelf order. How many segments it fills.
+fn pass(
+    plan: Plan,
+    l: usize,
+    weights: &[u8],
+    shelf: &[u8],
+    count: usize,
+    file: &mut [u8],
+    marks: &mut [u8],
+    list: &mut [u32],
+) -> u32
+    requires { ⌜ (count * (4 + l) ≤ length (now shelf)) × Room plan l (now weights) (now file) (now marks) (now list) ⌝ }
+    ensures { λ r. ⌜ Filled (plan .segments) (now (weights .entry))
+        (pass l (dropletsOf (now (weights .entry)) (plan .segments) l count (now (shelf .entry))) (record { file = now (file .entry); marks = now (marks .entry) }))
+        (now (marks .entry)) (now (list .entry)) (now (file .exit)) (now (marks .exit)) (now (list .exit)) r ⌝ }
+{
+    let mut filled = 0;
+    let mut i = 0;
+    while i < count {
+        filled += step_record(record_at(shelf, l, i), plan, l, weights, file, marks, list);
+        i += 1;
+    }
+    filled
+}
+
+// Passes until one fills nothing; that last one is counted too.
+fn peel(
+    plan: Plan,
+    l: usize,
+    weights: &[u8],
+    shelf: &[u8],
+    count: usize,
+    file: &mut [u8],
+    marks: &mut [u8],
+    list: &mut [u32],
+) -> Peeling
+    requires { ⌜ (count * (4 + l) ≤ length (now shelf)) × Room plan l (now weights) (now file) (now marks) (now list) × (present (plan .segments) (now marks) ≡ 0) ⌝ }
+    ensures { λ r. ⌜ Ended (plan .segments) (now (weights .entry))
+        (peel (suc (plan .segments)) (plan .segments) l (dropletsOf (now (weights .entry)) (plan .segments) l count (now (shelf .entry))) 0 (record { file = now (file .entry); marks = now (marks .entry) }))
+        (now (list .entry)) (now (file .exit)) (now (marks .exit)) (now (list .exit)) r ⌝ }
+{
+    let mut present = 0;
+    let mut passes = 0;
+    loop {
+        let filled = pass(plan, l, weights, shelf, count, file, marks, list);
+        passes += 1;
+        if filled == 0 {
+            return Peeling { present, passes };
+        }
+        present += filled;
+    }
+}
+
+// Whether `bytes` starts with `front`.
+fn starts_with(bytes: &[u8], front: &[u8]) -> bool
+    requires { ⌜ length (now front) ≤ length (now bytes) ⌝ }
+    ensures { λ r. ⌜ r ≡ sameBytes (take (length (now (front .entry))) (now (bytes .entry))) (now (front .entry)) ⌝ }
+{
+    let mut i = 0;
+    while i < front.len() {
+        if bytes[i] != front[i] {
+            return false;
+        }
+        i += 1;
+    }
+    true
+}
+
+// Whether a record contradicts the segments: all of its own are marked, and their XOR is not its payload.
+fn contradicts(
+    bytes: &[u8],
+    plan: Plan,
+    l: usize,
+    weights: &[u8],
+    file: &[u8],
+    marks: &[u8],
+    list: &mut [u32],
+) -> bool
+    requires { ⌜ (length (now bytes) ≡ 4 + l) × Room plan l (now weights) (now file) (now marks) (now list) ⌝ }
+    ensures { λ r. ⌜ (r ≡ contradicts l (record { file = now (file .entry); marks = now (marks .entry) }) (dropletOf (now (weights .entry)) (plan .segments) (recordFrom l (now (bytes .entry)))))
+        × (drop (weightCount (now (weights .entry))) (now (list .exit)) ≡ drop (weightCount (now (weights .entry))) (now (list .entry))) ⌝ }
+{
+    let drawn = draw_record(bytes, plan, weights, marks, list);
+    let d = drawn.degree;
+    let unmarked = drawn.unmarked;
+    let Unmarked::None = unmarked else {
+        return false;
+    };
+    let p = payload_of(file, l, &list[..d]);
+    if starts_with(&p, &bytes[4..]) {
+        return false;
+    }
+    true
+}
+
+fn count_contradictions(
+    plan: Plan,
+    l: usize,
+    weights: &[u8],
+    shelf: &[u8],
+    count: usize,
+    file: &[u8],
+    marks: &[u8],
+    list: &mut [u32],
+) -> usize
+    requires { ⌜ (count * (4 + l) ≤ length (now shelf)) × Room plan l (now weights) (now file) (now marks) (now list) ⌝ }
+    ensures { λ r. ⌜ (r ≡ contradictions l (dropletsOf (now (weights .entry)) (plan .segments) l count (now (shelf .entry))) (record { file = now (file .entry); marks = now (marks .entry) }))
+        × (drop (weightCount (now (weights .entry))) (now (list .exit)) ≡ drop (weightCount (now (weights .entry))) (now (list .entry))) ⌝ }
+{
+    let mut n = 0;
+    let mut i = 0;
+    while i < count {
+        if contradicts(record_at(shelf, l, i), plan, l, weights, file, marks, list) {
+            n += 1;
+        }
+        i += 1;
+    }
+    n
+}
+
+// A restore that no question refuses.
+fn recover(
+    plan: Plan,
+    l: usize,
+    weights: &[u8],
+    shelf: &[u8],
+    count: usize,
+    file: &mut [u8],
+    marks: &mut [u8],
+    list: &mut [u32],
+) -> Sheet
+    requires { ⌜ (count * (4 + l) ≤ length (now shelf)) × Room plan l (now weights) (now file) (now marks) (now list) ⌝ }
+    ensures { λ r. ⌜ Recovered (plan .segments) l (now (weights .entry)) (dropletsOf (now (weights .entry)) (plan .segments) l count (now (shelf .entry)))
+        (restoration (plan .segments) l (dropletsOf (now (weights .entry)) (plan .segments) l count (now (shelf .entry))) (now (file .entry)) (now (marks .entry)))
+        (now (list .entry)) (now (file .exit)) (now (marks .exit)) (now (list .exit)) r ⌝ }
+{
+    let k = plan.segments as usize;
+    let n = k * l;
+    clear(&mut file[..n]);
+    clear(&mut marks[..k]);
+    let end = peel(plan, l, weights, shelf, count, file, marks, list);
+    let contradictions = count_contradictions(plan, l, weights, shelf, count, file, marks, list);
+    Sheet {
+        present: end.present,
+        passes: end.passes,
+        contradictions,
+    }
+}
+
+// The questions 14, 17, 18 and 8: the number of the first that says no, or 0.
+fn later_refusal(
+    plan: Plan,
+    l: usize,
+    shelf: &[u8],
+    count: usize,
+    file: usize,
+    marks: usize,
+    list: usize,
+) -> u8
+    requires { ⌜ (l ≤ 64) × (plan .segments ≤ 131072) ⌝ }
+    ensures { λ r. ⌜ r ≡ laterRefusal (plan .segments) l (plan .degrees) (now (shelf .entry)) count file marks list ⌝ }
+{
+    if shelf.len() / (4 + l) < count {
+        return 14;
+    }
+    if has_seed_zero(shelf, l, count) {
+        return 17;
+    }
+    let k = plan.segments as usize;
+    if file < k * l {
+        return 18;
+    }
+    if marks < k {
+        return 18;
+    }
+    if list < plan.degrees as usize {
+        return 8;
+    }
+    0
+}
+
+// Fills what the records of a shelf give of a file. The number list is scratch memory.
+pub fn restore(
+    card: Card,
+    weights: &[u8],
+    shelf: &[u8],
+    count: usize,
+    file: &mut [u8],
+    marks: &mut [u8],
+    list: &mut [u32],
+) -> RestoreAnswer
+    ensures { λ r. ⌜ RestorePromise card (now (weights .entry)) (now (shelf .entry)) count (now (file .entry)) (now (marks .entry)) (now (list .entry)) r (now (file .exit)) (now (marks .exit)) (now (list .exit)) ⌝ }
+{
+    match check_plan(card, weights) {
+        PlanAnswer::Refused(n) => RestoreAnswer::Refused(n),
+        PlanAnswer::Ready(plan) => {
+            let l = card.l as usize;
+            let n = later_refusal(plan, l, shelf, count, file.len(), marks.len(), list.len());
+            if n != 0 {
+                return RestoreAnswer::Refused(n);
+            }
+            RestoreAnswer::Restored(recover(plan, l, weights, shelf, count, file, marks, list))
+        }
+    }
+}

@@ -1,0 +1,142 @@
+ghost use mathlib.Core.Path.{_≡_};
+ghost use Prim.Native.Nat.{_≤_};
+ghost use lib.ListN.{length, take};
+ghost use Rattle.strand.specs.ReadCheck.{droplet, readCheck};
+ghost use Rattle.decoder.specs.Shelf.{sameBytes, countFits, appended, shelvedReading, StorePromise};
+ghost use Rattle.decoder.specs.StoreLoops.{Within, Sought, Keeps, refusalNumber};
+use droplet::card;
+use droplet::card::Card;
+use droplet::card::PlanAnswer;
+use strand::read_check;
+use strand::read_check::ReadOutcome;
+use strand::records;
+
+// What a store call answers: the count after it, or the number of the question that refused the read.
+pub enum StoreAnswer {
+    Accepted(usize),
+    Repeat(usize),
+    Refused(u8),
+}
+
+// Where the first record of a seed starts, if there is one.
+enum Place {
+    At(usize),
+    Nowhere,
+}
+
+// Whether `bytes` starts with `front`.
+pub fn starts_with(bytes: &[u8], front: &[u8]) -> bool
+    requires { ⌜ length (now front) ≤ length (now bytes) ⌝ }
+    ensures { λ r. ⌜ r ≡ sameBytes (take (length (now (front .entry))) (now (bytes .entry))) (now (front .entry)) ⌝ }
+{
+    let mut i = 0;
+    while i < front.len() {
+        if bytes[i] != front[i] {
+            return false;
+        }
+        i += 1;
+    }
+    true
+}
+
+// Question 14. The product could pass the largest number, the quotient cannot.
+pub fn count_fits(shelf: &[u8], l: usize, count: usize) -> bool
+    requires { ⌜ l ≤ 64 ⌝ }
+    ensures { λ r. ⌜ r ≡ countFits l (now (shelf .entry)) count ⌝ }
+{
+    count <= shelf.len() / (4 + l)
+}
+
+// The first record of a seed. This is the longest loop of a store call: it looks at the seeds alone, and keeps the place of the
+// record instead of computing it from the number.
+fn find_seed(shelf: &[u8], l: usize, count: usize, seed: u32) -> Place
+    requires { ⌜ Within l count (now shelf) ⌝ }
+    ensures { λ r. ⌜ Sought l count (now (shelf .entry)) seed r ⌝ }
+{
+    let width = 4 + l;
+    let mut left = count;
+    let mut at = 0;
+    while 0 < left {
+        if records::seed_of(&shelf[at..]) == seed {
+            return Place::At(at);
+        }
+        at += width;
+        left -= 1;
+    }
+    Place::Nowhere
+}
+
+// Appends a record, if there is space for it: question 16.
+fn append(shelf: &mut [u8], count: usize, seed: u32, payload: &[u8]) -> StoreAnswer
+    requires { ⌜ Within (length (now payload)) count (now shelf) ⌝ }
+    ensures { λ r. ⌜ Keeps (appended (length (now (payload .entry))) (now (shelf .entry)) count (record { seed = seed; payload = now (payload .entry) })) r (now (shelf .exit)) ⌝ }
+{
+    let width = 4 + payload.len();
+    let at = count * width;
+    if shelf.len() - at < width {
+        return StoreAnswer::Refused(16);
+    }
+    let end = at + width;
+    records::put_record(seed, payload, &mut shelf[at..end]);
+    StoreAnswer::Accepted(count + 1)
+}
+
+// Takes a droplet in: question 15, of the first record of its seed, and where there is none question 16.
+fn shelve(shelf: &mut [u8], count: usize, seed: u32, payload: &[u8]) -> StoreAnswer
+    requires { ⌜ Within (length (now payload)) count (now shelf) ⌝ }
+    ensures { λ r. ⌜ Keeps (shelvedReading (length (now (payload .entry))) (now (shelf .entry)) count (droplet seed (now (payload .entry)))) r (now (shelf .exit)) ⌝ }
+{
+    let Place::At(at) = find_seed(shelf, payload.len(), count, seed) else {
+        return append(shelf, count, seed, payload);
+    };
+    let from = at + 4;
+    if starts_with(&shelf[from..], payload) {
+        return StoreAnswer::Repeat(count);
+    }
+    StoreAnswer::Refused(15)
+}
+
+// The number of the question that refused a read; 0 where none did.
+fn refusal_of(outcome: ReadOutcome) -> u8
+    ensures { λ r. ⌜ r ≡ refusalNumber outcome ⌝ }
+{
+    match outcome {
+        ReadOutcome::Droplet(_) => 0,
+        ReadOutcome::Refused(n) => n,
+    }
+}
+
+// The questions 9 to 13, 15 and 16: the droplet is taken out of the read check's answer, or its refusal is handed on.
+fn offer(card: Card, weights: &[u8], shelf: &mut [u8], count: usize, read: &[u8]) -> StoreAnswer
+    requires { ⌜ Within (card .l) count (now shelf) ⌝ }
+    ensures { λ r. ⌜ Keeps (shelvedReading (card .l) (now (shelf .entry)) count (readCheck card (now (weights .entry)) (now (read .entry)))) r (now (shelf .exit)) ⌝ }
+{
+    let answer = read_check::check_read(card, weights, read);
+    let outcome = answer.outcome;
+    let payload = answer.payload;
+    let ReadOutcome::Droplet(seed) = outcome else {
+        return StoreAnswer::Refused(refusal_of(outcome));
+    };
+    let l = card.l as usize;
+    shelve(shelf, count, seed, &payload[..l])
+}
+
+// Offers a read to the shelf: the questions 2 to 4, 14, and then those of the read and its record. The next call is handed the
+// count in the answer, or after a refusal the same as this one.
+pub fn store_read(
+    card: Card,
+    weights: &[u8],
+    shelf: &mut [u8],
+    count: usize,
+    read: &[u8],
+) -> StoreAnswer
+    ensures { λ r. ⌜ StorePromise card (now (weights .entry)) (now (shelf .entry)) count (now (read .entry)) r (now (shelf .exit)) ⌝ }
+{
+    if let PlanAnswer::Refused(n) = card::check_plan(card, weights) {
+        return StoreAnswer::Refused(n);
+    }
+    if count_fits(shelf, card.l as usize, count) {
+        return offer(card, weights, shelf, count, read);
+    }
+    StoreAnswer::Refused(14)
+}
