@@ -1,0 +1,720 @@
+//! Section "Check bytes, letters, screen", with the read check and its C form.
+
+use crate::pool_card::{number_of_bytes, Handed};
+use crate::questions::{
+    ask, question_10, question_11, question_12, question_13, question_16_c_form, question_9,
+    Refusal,
+};
+
+// ---------------------------------------------------------------- the field
+
+/// "Field: 256 elements, polynomial hex 11D": the product of two elements, as
+/// polynomials over one bit, with multiples of the polynomial taken off.
+pub fn field_product(a: u8, b: u8) -> u8 {
+    let mut product: u32 = 0;
+    for bit in 0..8 {
+        if (b >> bit) & 1 == 1 {
+            product ^= u32::from(a) << bit;
+        }
+    }
+    for bit in (8..15).rev() {
+        if (product >> bit) & 1 == 1 {
+            product ^= 0x11D << (bit - 8);
+        }
+    }
+    product as u8
+}
+
+/// a multiplied with itself `exponent` times, a^0 being 1.
+pub fn field_power(a: u8, exponent: usize) -> u8 {
+    let mut power = 1;
+    for _ in 0..exponent {
+        power = field_product(power, a);
+    }
+    power
+}
+
+/// The element whose product with a is 1, found by trying all. Needs a not 0.
+pub fn field_inverse(a: u8) -> u8 {
+    (1..=255)
+        .find(|&b| field_product(a, b) == 1)
+        .expect("0 has no inverse")
+}
+
+/// "root a = 2"
+const ROOT: u8 = 2;
+
+// ---------------------------------------------------------------- check bytes
+
+/// The value of a polynomial, "first byte the highest coefficient".
+pub fn polynomial_at(coefficients: &[u8], place: u8) -> u8 {
+    let mut value = 0;
+    for &coefficient in coefficients {
+        value = field_product(value, place) ^ coefficient;
+    }
+    value
+}
+
+/// The results at a^0 .. a^(r-1), for any number of them.
+pub fn polynomial_at_roots(coefficients: &[u8], r: usize) -> Vec<u8> {
+    (0..r)
+        .map(|i| polynomial_at(coefficients, field_power(ROOT, i)))
+        .collect()
+}
+
+/// "These R results are the check sums of a received strand; they travel as
+/// four bytes, those past R being 0." Needs R at most 4.
+pub fn check_sums(strand_bytes: &[u8], r: u8) -> [u8; 4] {
+    let mut sums = [0; 4];
+    for (i, sum) in polynomial_at_roots(strand_bytes, usize::from(r))
+        .into_iter()
+        .enumerate()
+    {
+        sums[i] = sum;
+    }
+    sums
+}
+
+/// "Seed (...), payload and R check bytes, first byte the highest coefficient,
+/// form a polynomial that is 0 at a^0 .. a^(R-1)."
+///
+/// The check bytes are found as the unknowns of these R equations. With check
+/// bytes c_0 .. c_(R-1), the equation at x = a^i is
+///
+///   c_0·x^(R-1) + c_1·x^(R-2) + .. + c_(R-1) = value at x of the message
+///                                             followed by R zero bytes
+///
+/// since sum and difference are the same in this field. The equations are
+/// solved by elimination. For any number r of check bytes.
+pub fn check_bytes(message: &[u8], r: usize) -> Vec<u8> {
+    let mut message_and_zeros = message.to_vec();
+    message_and_zeros.extend(vec![0; r]);
+
+    // Row i: the R factors at a^i, then the right-hand side.
+    let mut rows: Vec<Vec<u8>> = Vec::new();
+    for i in 0..r {
+        let x = field_power(ROOT, i);
+        let mut row: Vec<u8> = (0..r).map(|c| field_power(x, r - 1 - c)).collect();
+        row.push(polynomial_at(&message_and_zeros, x));
+        rows.push(row);
+    }
+
+    for column in 0..r {
+        // Bring a row with a factor other than 0 in this column into place.
+        let with_factor = (column..r)
+            .find(|&i| rows[i][column] != 0)
+            .expect("the roots differ, so the equations have one solution");
+        rows.swap(column, with_factor);
+        // Make that factor 1.
+        let inverse = field_inverse(rows[column][column]);
+        for entry in &mut rows[column] {
+            *entry = field_product(*entry, inverse);
+        }
+        // Take the column out of every other row.
+        let taken = rows[column].clone();
+        for (i, row) in rows.iter_mut().enumerate() {
+            if i != column {
+                let factor = row[column];
+                for (entry, &t) in row.iter_mut().zip(&taken) {
+                    *entry ^= field_product(factor, t);
+                }
+            }
+        }
+    }
+
+    rows.iter().map(|row| row[r]).collect()
+}
+
+/// "Seed (four bytes, most significant first, on the shelf too), payload and R
+/// check bytes": the bytes of a strand.
+pub fn strand_bytes(seed: u32, payload: &[u8], r: u8) -> Vec<u8> {
+    let mut bytes = seed.to_be_bytes().to_vec();
+    bytes.extend_from_slice(payload);
+    let check = check_bytes(&bytes, usize::from(r));
+    bytes.extend_from_slice(&check);
+    bytes
+}
+
+// ---------------------------------------------------------------- letters
+
+/// "00 is A, 01 C, 10 G, 11 T (document 001)."
+pub fn letter_of_pair(pair: u8) -> u8 {
+    match pair {
+        0b00 => b'A',
+        0b01 => b'C',
+        0b10 => b'G',
+        0b11 => b'T',
+        _ => panic!("two bits are at most 3"),
+    }
+}
+
+/// The same the other way. "Any other letter, N and small letters included, is
+/// refused."
+pub fn pair_of_letter(letter: u8) -> Option<u8> {
+    match letter {
+        b'A' => Some(0b00),
+        b'C' => Some(0b01),
+        b'G' => Some(0b10),
+        b'T' => Some(0b11),
+        _ => None,
+    }
+}
+
+/// "Two bits are one base, highest pair first": the four letters of a byte.
+pub fn letters_of_byte(byte: u8) -> [u8; 4] {
+    [
+        letter_of_pair(byte / 64),
+        letter_of_pair(byte / 16 % 4),
+        letter_of_pair(byte / 4 % 4),
+        letter_of_pair(byte % 4),
+    ]
+}
+
+/// The letters of a strand.
+pub fn letters_of_bytes(bytes: &[u8]) -> Vec<u8> {
+    bytes
+        .iter()
+        .flat_map(|&byte| letters_of_byte(byte))
+        .collect()
+}
+
+/// The bytes that letters spell: "four bases are one byte". Nothing if one of
+/// them is no base, or if letters are left over.
+pub fn bytes_of_letters(letters: &[u8]) -> Option<Vec<u8>> {
+    if letters.len() % 4 != 0 {
+        return None;
+    }
+    let mut bytes = Vec::new();
+    for four in letters.chunks_exact(4) {
+        let mut byte = 0;
+        for &letter in four {
+            byte = byte * 4 + pair_of_letter(letter)?;
+        }
+        bytes.push(byte);
+    }
+    Some(bytes)
+}
+
+// ---------------------------------------------------------------- screen
+
+/// "A run is counted inside the strand alone": the longest run of one letter.
+pub fn longest_run(letters: &[u8]) -> usize {
+    let mut longest = 0;
+    let mut run = 0;
+    for i in 0..letters.len() {
+        if i > 0 && letters[i] == letters[i - 1] {
+            run += 1;
+        } else {
+            run = 1;
+        }
+        longest = longest.max(run);
+    }
+    longest
+}
+
+/// "where g counts C and G over the n bases"
+pub fn count_gc(letters: &[u8]) -> usize {
+    letters
+        .iter()
+        .filter(|&&letter| letter == b'C' || letter == b'G')
+        .count()
+}
+
+/// "How many of a byte's four bases are C or G is kept in a table of 256
+/// entries." The table's entries, counted from the letters.
+pub fn gc_table() -> [u8; 256] {
+    let mut table = [0; 256];
+    for (byte, entry) in table.iter_mut().enumerate() {
+        *entry = count_gc(&letters_of_byte(byte as u8)) as u8;
+    }
+    table
+}
+
+/// "The screen passes if no run of one base is longer than m and lo·n ≤ 1000·g
+/// ≤ hi·n, where g counts C and G over the n bases."
+pub fn screen(letters: &[u8], m: u8, lo: u16, hi: u16) -> bool {
+    let n = letters.len();
+    let g = count_gc(letters);
+    longest_run(letters) <= usize::from(m)
+        && usize::from(lo) * n <= 1000 * g
+        && 1000 * g <= usize::from(hi) * n
+}
+
+// ---------------------------------------------------------------- read check
+
+/// What an accepted read gives back. "A read check's payload is 64 bytes, those
+/// past L being 0."
+#[derive(Clone, Copy, Debug, PartialEq, Eq)]
+pub struct Droplet {
+    pub seed: u32,
+    pub payload: [u8; 64],
+}
+
+/// Questions 9 to 13 in their order: "A string is a legal strand if questions 9
+/// to 13, as they are written below, all say yes of it."
+///
+/// Needs questions 2 to 4 to have said yes.
+pub(crate) fn questions_9_to_13(handed: &Handed, read: &[u8]) -> Result<Droplet, Refusal> {
+    ask(question_9(read.len(), handed.n_bases()), 9)?;
+    ask(question_10(read), 10)?;
+    let bytes = bytes_of_letters(read).expect("4 times (4 + L + R) letters, all of A, C, G, T");
+    ask(question_11(check_sums(&bytes, handed.r)), 11)?;
+    let seed = number_of_bytes(&bytes[0..4]);
+    ask(question_12(seed), 12)?;
+    ask(question_13(read, handed.m, handed.lo, handed.hi), 13)?;
+
+    let l = usize::from(handed.l);
+    let mut payload = [0; 64];
+    payload[..l].copy_from_slice(&bytes[4..4 + l]);
+    Ok(Droplet { seed, payload })
+}
+
+/// "Every other call has 2 to 4 first, then its own, in the order shown." and
+/// "Read check: n letters? 9. All of A, C, G, T? 10. Check sums all 0? 11. Seed
+/// not 0? 12. Screen passed? 13."
+pub fn read_check(handed: &Handed, read: &[u8]) -> Result<Droplet, Refusal> {
+    handed.questions_2_to_4()?;
+    questions_9_to_13(handed, read)
+}
+
+/// "The read check's C form takes the same inputs and a lent buffer. For an
+/// accepted read it writes the seed and the L payload bytes into the buffer's
+/// first 4 + L bytes, leaves the others as they were and returns 0. Otherwise
+/// it returns the refusal number." and "Then, in the C form alone: buffer at
+/// least 4 + L bytes? 16"
+///
+/// The seed's four bytes stand most significant first. This renders the rules
+/// over slices; it is not itself callable from C.
+pub fn read_check_c_form(handed: &Handed, read: &[u8], buffer: &mut [u8]) -> u32 {
+    let droplet = match read_check(handed, read) {
+        Ok(droplet) => droplet,
+        Err(Refusal(number)) => return u32::from(number),
+    };
+    if let Err(Refusal(number)) = ask(question_16_c_form(buffer.len(), handed.l), 16) {
+        return u32::from(number);
+    }
+    let l = usize::from(handed.l);
+    buffer[0..4].copy_from_slice(&droplet.seed.to_be_bytes());
+    buffer[4..4 + l].copy_from_slice(&droplet.payload[..l]);
+    0
+}
+
+#[cfg(test)]
+mod tests {
+    use super::*;
+
+    const P_WEIGHTS: [u8; 8] = [0, 0, 0, 1, 0, 0, 0, 1];
+    const P: Handed = Handed {
+        f: 4,
+        l: 1,
+        r: 2,
+        m: 15,
+        lo: 214,
+        hi: 1000,
+        weights: &P_WEIGHTS,
+    };
+    const SEED_1: &[u8; 28] = b"AAAAAAAAAAAAAAACTGCAATCGTCAT";
+
+    // ------------------------------------------------------------ field
+
+    /// An independent product: by adding exponents of the root.
+    fn product_by_powers(a: u8, b: u8) -> u8 {
+        if a == 0 || b == 0 {
+            return 0;
+        }
+        let mut powers = Vec::new();
+        let mut x: u16 = 1;
+        for _ in 0..255 {
+            powers.push(x as u8);
+            x <<= 1;
+            if x > 255 {
+                x ^= 0x11D;
+            }
+        }
+        let log = |v: u8| powers.iter().position(|&p| p == v).unwrap();
+        powers[(log(a) + log(b)) % 255]
+    }
+
+    #[test]
+    fn products_agree_with_powers_of_the_root() {
+        for a in 0..=255 {
+            for b in (0..=255).step_by(7) {
+                assert_eq!(field_product(a, b), product_by_powers(a, b), "{a} {b}");
+            }
+        }
+    }
+
+    /// Powers of 2 in this field as printed in QR code tables: 2^8 = 29,
+    /// 2^25 = 3, 2^254 = 142, 2^255 = 1.
+    #[test]
+    fn published_powers_of_2() {
+        assert_eq!(field_power(2, 8), 29);
+        assert_eq!(field_power(2, 25), 3);
+        assert_eq!(field_power(2, 254), 142);
+        assert_eq!(field_power(2, 255), 1);
+        let mut all: Vec<u8> = (0..255).map(|e| field_power(2, e)).collect();
+        all.sort();
+        assert_eq!(all, (1..=255).collect::<Vec<u8>>());
+    }
+
+    #[test]
+    fn inverses() {
+        for a in 1..=255 {
+            assert_eq!(field_product(a, field_inverse(a)), 1);
+            assert_eq!(field_inverse(a), field_power(a, 254));
+        }
+    }
+
+    // ------------------------------------------------------------ Reed-Solomon
+
+    /// The product of two polynomials, first byte the highest coefficient.
+    fn polynomial_product(p: &[u8], q: &[u8]) -> Vec<u8> {
+        let mut product = vec![0; p.len() + q.len() - 1];
+        for (i, &a) in p.iter().enumerate() {
+            for (j, &b) in q.iter().enumerate() {
+                product[i + j] ^= field_product(a, b);
+            }
+        }
+        product
+    }
+
+    /// (x - a^0)(x - a^1) .. (x - a^(r-1))
+    fn generator_polynomial(r: usize) -> Vec<u8> {
+        (0..r).fold(vec![1], |g, i| {
+            polynomial_product(&g, &[1, field_power(2, i)])
+        })
+    }
+
+    /// The second route to the check bytes: the remainder of the message times
+    /// x^r after division by the generator polynomial.
+    fn remainder_check_bytes(message: &[u8], r: usize) -> Vec<u8> {
+        let generator = generator_polynomial(r);
+        let mut rest = message.to_vec();
+        rest.extend(vec![0; r]);
+        for i in 0..message.len() {
+            let factor = rest[i];
+            for (j, &g) in generator.iter().enumerate() {
+                rest[i + j] ^= field_product(factor, g);
+            }
+        }
+        rest[message.len()..].to_vec()
+    }
+
+    /// Published generator polynomials for polynomial 11D with first root a^0.
+    #[test]
+    fn published_generator_polynomials() {
+        assert_eq!(generator_polynomial(2), [1, 3, 2]);
+        assert_eq!(generator_polynomial(4), [1, 15, 54, 120, 64]);
+        // The check bytes of the message 01 are the generator polynomial
+        // without its first coefficient.
+        assert_eq!(check_bytes(&[1], 2), [3, 2]);
+        assert_eq!(check_bytes(&[1], 4), [15, 54, 120, 64]);
+    }
+
+    /// Bench example: "R=2: message 01 has check bytes 03 02; message 01 00 has
+    /// 07 06."
+    #[test]
+    fn bench_check_bytes() {
+        assert_eq!(check_bytes(&[0x01], 2), [0x03, 0x02]);
+        assert_eq!(check_bytes(&[0x01, 0x00], 2), [0x07, 0x06]);
+    }
+
+    /// "Reed-Solomon codes for coders" (Wikiversity), section on encoding:
+    /// message 12 34 56, four check bytes 37 E6 78 D9. Same field, same roots
+    /// a^0 .. a^3.
+    #[test]
+    fn published_four_check_bytes() {
+        assert_eq!(
+            check_bytes(&[0x12, 0x34, 0x56], 4),
+            [0x37, 0xE6, 0x78, 0xD9]
+        );
+    }
+
+    /// QR codes use the same field and roots from a^0 on, with more check bytes.
+    #[test]
+    fn published_qr_code_vectors() {
+        // ISO/IEC 18004, annex with the encoding example "01234567", version
+        // 1-M: ten check bytes.
+        assert_eq!(
+            check_bytes(
+                &[
+                    0x10, 0x20, 0x0C, 0x56, 0x61, 0x80, 0xEC, 0x11, 0xEC, 0x11, 0xEC, 0x11, 0xEC,
+                    0x11, 0xEC, 0x11
+                ],
+                10
+            ),
+            [0xA5, 0x24, 0xD4, 0xC1, 0xED, 0x36, 0xC7, 0x87, 0x2C, 0x55]
+        );
+        // The same annex, Micro QR version M2-L: five check bytes.
+        assert_eq!(
+            check_bytes(&[0x40, 0x18, 0xAC, 0xC3, 0x00], 5),
+            [0x86, 0x0D, 0x22, 0xAE, 0x30]
+        );
+        // Thonky QR code tutorial, "HELLO WORLD" version 1-M: ten check bytes.
+        assert_eq!(
+            check_bytes(
+                &[32, 91, 11, 120, 209, 114, 220, 77, 67, 64, 236, 17, 236, 17, 236, 17],
+                10
+            ),
+            [196, 35, 39, 119, 235, 215, 231, 226, 93, 23]
+        );
+        // "Reed-Solomon codes for coders" (Wikiversity): ten check bytes.
+        assert_eq!(
+            check_bytes(
+                &[
+                    0x40, 0xD2, 0x75, 0x47, 0x76, 0x17, 0x32, 0x06, 0x27, 0x26, 0x96, 0xC6, 0xC6,
+                    0x96, 0x70, 0xEC
+                ],
+                10
+            ),
+            [0xBC, 0x2A, 0x90, 0x13, 0x6B, 0xAF, 0xEF, 0xFD, 0x4B, 0xE0]
+        );
+    }
+
+    /// Solving the equations and dividing by the generator polynomial agree,
+    /// and the strand's check sums are 0.
+    #[test]
+    fn both_routes_to_the_check_bytes_agree() {
+        let mut x = 12345u32;
+        for length in 0..=68 {
+            for _ in 0..20 {
+                let message: Vec<u8> = (0..length)
+                    .map(|_| {
+                        x = x.wrapping_mul(1_664_525).wrapping_add(1_013_904_223);
+                        (x >> 24) as u8
+                    })
+                    .collect();
+                for r in [2u8, 4] {
+                    let check = check_bytes(&message, usize::from(r));
+                    assert_eq!(check, remainder_check_bytes(&message, usize::from(r)));
+                    let mut strand = message.clone();
+                    strand.extend_from_slice(&check);
+                    assert_eq!(check_sums(&strand, r), [0; 4]);
+                }
+            }
+        }
+    }
+
+    /// The value at a place, as a sum of coefficient times power.
+    #[test]
+    fn polynomial_value_by_powers() {
+        let p = [7, 0, 200, 13, 255, 1];
+        for place in 0..=255 {
+            let mut sum = 0;
+            for (i, &c) in p.iter().enumerate() {
+                sum ^= field_product(c, field_power(place, p.len() - 1 - i));
+            }
+            assert_eq!(polynomial_at(&p, place), sum);
+        }
+    }
+
+    /// "those past R being 0"
+    #[test]
+    fn check_sums_past_r_are_0() {
+        let sums = check_sums(&[1, 2, 3, 4, 5, 6, 9], 2);
+        assert_ne!(sums[0], 0);
+        assert_ne!(sums[1], 0);
+        assert_eq!(&sums[2..], [0, 0]);
+        // At a^0 the value is the XOR of all bytes.
+        assert_eq!(sums[0], 1 ^ 2 ^ 3 ^ 4 ^ 5 ^ 6 ^ 9);
+        let four = check_sums(&[1, 2, 3, 4, 5, 6, 9], 4);
+        assert_eq!(four[..2], sums[..2]);
+        assert_ne!(four[2], 0);
+    }
+
+    // ------------------------------------------------------------ letters
+
+    #[test]
+    fn letters_highest_pair_first() {
+        assert_eq!(&letters_of_byte(0b00_01_10_11), b"ACGT");
+        assert_eq!(&letters_of_byte(0xE4), b"TGCA");
+        for byte in 0..=255u8 {
+            assert_eq!(bytes_of_letters(&letters_of_byte(byte)), Some(vec![byte]));
+        }
+        for letter in 0..=255u8 {
+            assert_eq!(pair_of_letter(letter).is_some(), b"ACGT".contains(&letter));
+        }
+        assert_eq!(bytes_of_letters(b"ACGN"), None);
+        assert_eq!(bytes_of_letters(b"acgt"), None);
+        assert_eq!(bytes_of_letters(b"ACG"), None);
+    }
+
+    /// Bench example: "Seed 1 of Q: hex 00000001 E4 36 D3,
+    /// AAAAAAAAAAAAAAACTGCAATCGTCAT, longest run 15, g=6."
+    #[test]
+    fn bench_strand_of_seed_1() {
+        let bytes = strand_bytes(1, &[0xE4], 2);
+        assert_eq!(bytes, [0x00, 0x00, 0x00, 0x01, 0xE4, 0x36, 0xD3]);
+        let letters = letters_of_bytes(&bytes);
+        assert_eq!(letters, SEED_1);
+        assert_eq!(longest_run(&letters), 15);
+        assert_eq!(count_gc(&letters), 6);
+    }
+
+    // ------------------------------------------------------------ screen
+
+    /// Bench example: "It passes at m=15, lo=214; m=14 gives 13, and so does
+    /// lo=215."
+    #[test]
+    fn bench_screen_of_seed_1() {
+        assert!(screen(SEED_1, 15, 214, 1000));
+        assert!(!screen(SEED_1, 14, 214, 1000));
+        assert!(!screen(SEED_1, 15, 215, 1000));
+        assert!(read_check(&P, SEED_1).is_ok());
+        assert_eq!(read_check(&Handed { m: 14, ..P }, SEED_1), Err(Refusal(13)));
+        assert_eq!(
+            read_check(&Handed { lo: 215, ..P }, SEED_1),
+            Err(Refusal(13))
+        );
+    }
+
+    /// The upper limit is not rounded either: 6 of 28 is 214.28.. thousandths.
+    #[test]
+    fn upper_gc_limit() {
+        assert!(screen(SEED_1, 15, 0, 215));
+        assert!(!screen(SEED_1, 15, 0, 214));
+        assert!(screen(b"CGCG", 1, 1000, 1000));
+        assert!(!screen(b"CGCA", 1, 751, 1000));
+        assert!(screen(b"CGCA", 1, 750, 750));
+        assert!(screen(b"ATAT", 1, 0, 0));
+    }
+
+    #[test]
+    fn runs() {
+        assert_eq!(longest_run(b""), 0);
+        assert_eq!(longest_run(b"A"), 1);
+        assert_eq!(longest_run(b"ACCA"), 2);
+        assert_eq!(longest_run(b"ACCCGGGG"), 4);
+        assert_eq!(longest_run(b"TTTA"), 3);
+        assert_eq!(longest_run(b"AATAA"), 2);
+    }
+
+    /// The table's entries add up to the count over the letters.
+    #[test]
+    fn table_agrees_with_letters() {
+        let table = gc_table();
+        assert_eq!(table[0x00], 0);
+        assert_eq!(table[0xFF], 0);
+        assert_eq!(table[0x55], 4);
+        assert_eq!(table[0xAA], 4);
+        assert_eq!(table[0x1B], 2);
+        for byte in 0..=255u8 {
+            // C and G are the pairs whose two bits differ.
+            let differing = (byte ^ (byte >> 1)) & 0b0101_0101;
+            assert_eq!(u32::from(table[usize::from(byte)]), differing.count_ones());
+        }
+    }
+
+    // ------------------------------------------------------------ read check
+
+    #[test]
+    fn accepted_read_gives_seed_and_payload() {
+        let droplet = read_check(&P, SEED_1).unwrap();
+        assert_eq!(droplet.seed, 1);
+        assert_eq!(droplet.payload[0], 0xE4);
+        assert_eq!(droplet.payload[1..], [0; 63]);
+    }
+
+    /// Bench example: "28 letters A under P: 12, since the check sums are 0."
+    #[test]
+    fn bench_28_letters_a() {
+        assert_eq!(read_check(&P, &[b'A'; 28]), Err(Refusal(12)));
+    }
+
+    /// Bench example: "(AAAN is refused with 9.)"
+    #[test]
+    fn bench_aaan() {
+        assert_eq!(read_check(&P, b"AAAN"), Err(Refusal(9)));
+    }
+
+    #[test]
+    fn other_refusals() {
+        assert_eq!(read_check(&P, b""), Err(Refusal(9)));
+        assert_eq!(read_check(&P, &[b'A'; 27]), Err(Refusal(9)));
+        assert_eq!(read_check(&P, &[b'A'; 29]), Err(Refusal(9)));
+        for place in 0..28 {
+            for other in [
+                b'N', b'a', b'c', b'g', b't', b'\r', b' ', 0, 255, b'B', b'U',
+            ] {
+                let mut read = *SEED_1;
+                read[place] = other;
+                assert_eq!(read_check(&P, &read), Err(Refusal(10)));
+            }
+            for other in *b"ACGT" {
+                let mut read = *SEED_1;
+                if read[place] != other {
+                    read[place] = other;
+                    assert_eq!(read_check(&P, &read), Err(Refusal(11)));
+                }
+            }
+        }
+        // 2 to 4 come before 9.
+        assert_eq!(read_check(&Handed { r: 3, ..P }, b""), Err(Refusal(2)));
+        assert_eq!(read_check(&Handed { m: 21, ..P }, b""), Err(Refusal(3)));
+        assert_eq!(
+            read_check(&Handed { weights: &[], ..P }, b""),
+            Err(Refusal(4))
+        );
+    }
+
+    #[test]
+    fn c_form_writes_the_first_4_plus_l_bytes() {
+        let mut buffer = [0x77; 9];
+        assert_eq!(read_check_c_form(&P, SEED_1, &mut buffer), 0);
+        assert_eq!(buffer, [0, 0, 0, 1, 0xE4, 0x77, 0x77, 0x77, 0x77]);
+        let mut exact = [0x77; 5];
+        assert_eq!(read_check_c_form(&P, SEED_1, &mut exact), 0);
+        assert_eq!(exact, [0, 0, 0, 1, 0xE4]);
+    }
+
+    #[test]
+    fn c_form_refusals_keep_the_buffer_and_16_comes_last() {
+        let mut buffer = [0x77; 4];
+        assert_eq!(read_check_c_form(&P, SEED_1, &mut buffer), 16);
+        assert_eq!(read_check_c_form(&P, SEED_1, &mut []), 16);
+        assert_eq!(read_check_c_form(&P, b"AAAN", &mut buffer), 9);
+        assert_eq!(read_check_c_form(&P, &[b'N'; 28], &mut buffer), 10);
+        assert_eq!(read_check_c_form(&P, &[b'C'; 28], &mut buffer), 11);
+        assert_eq!(read_check_c_form(&P, &[b'A'; 28], &mut buffer), 12);
+        let strict = Handed { m: 14, ..P };
+        assert_eq!(read_check_c_form(&strict, SEED_1, &mut buffer), 13);
+        assert_eq!(
+            read_check_c_form(&Handed { l: 65, ..P }, SEED_1, &mut buffer),
+            2
+        );
+        assert_eq!(
+            read_check_c_form(&Handed { hi: 1001, ..P }, SEED_1, &mut buffer),
+            3
+        );
+        assert_eq!(
+            read_check_c_form(&Handed { weights: &[1], ..P }, SEED_1, &mut buffer),
+            4
+        );
+        assert_eq!(buffer, [0x77; 4]);
+    }
+
+    /// The longest strand: L = 64, R = 4, 288 bases.
+    #[test]
+    fn longest_strand() {
+        let handed = Handed {
+            f: 64,
+            l: 64,
+            r: 4,
+            m: 20,
+            lo: 0,
+            hi: 1000,
+            weights: &[0, 0, 0, 1],
+        };
+        let payload: Vec<u8> = (0..64).map(|i| (i * 37 + 11) as u8).collect();
+        let letters = letters_of_bytes(&strand_bytes(0x1234_5678, &payload, 4));
+        assert_eq!(letters.len(), 288);
+        let droplet = read_check(&handed, &letters).unwrap();
+        assert_eq!(droplet.seed, 0x1234_5678);
+        assert_eq!(droplet.payload[..], payload[..]);
+        let mut buffer = [0; 70];
+        assert_eq!(read_check_c_form(&handed, &letters, &mut buffer), 0);
+        assert_eq!(buffer[..4], [0x12, 0x34, 0x56, 0x78]);
+        assert_eq!(buffer[4..68], payload[..]);
+        assert_eq!(buffer[68..], [0, 0]);
+    }
+}

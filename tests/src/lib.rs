@@ -1,0 +1,33 @@
+//! Fountain strands: writer, read check, shelf and restorer.
+//!
+//! A second implementation of document 01, written for comparison in tests.
+//! Clarity comes before speed. Each module is named after a section of
+//! document 01, and each function quotes the sentence it renders.
+//!
+//! Every public call (card reading, read check, its C form, writing, shelving,
+//! restoring) takes slices and answers a struct or enum, or a `Refusal` holding
+//! the number of the first question answered "no". A refusal changes no buffer.
+//!
+//! The other functions are building blocks. Those that need an accepted card
+//! (questions 2 to 4 all "yes") say so.
+
+#![forbid(unsafe_code)]
+
+pub mod check_bytes_letters_screen;
+pub mod droplet;
+pub mod generator_and_seed_schedule;
+pub mod listing;
+pub mod pool_card;
+pub mod questions;
+pub mod restorer;
+pub mod shelf;
+pub mod writer;
+
+pub use check_bytes_letters_screen::{read_check, read_check_c_form, Droplet};
+pub use generator_and_seed_schedule::{schedule_step, DrawState};
+pub use listing::listing;
+pub use pool_card::{read_card, Card, Handed};
+pub use questions::{questions_2_to_4, Refusal};
+pub use restorer::{restore, Restored};
+pub use shelf::{shelve, Shelved};
+pub use writer::{write, Stop, Written};

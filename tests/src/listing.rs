@@ -1,0 +1,259 @@
+//! The listing program (described in section "Bench examples").
+
+use crate::pool_card::{k_of, read_card, Handed, WEIGHTS_START};
+use crate::questions::Refusal;
+use crate::restorer::restore;
+use crate::shelf::{shelve, Shelved};
+
+/// "reads from standard input, one a line (a last line without newline counts;
+/// an empty line is a read of length 0)"
+///
+/// A line is the bytes up to a newline byte, hex 0A. Nothing else is stripped.
+pub fn lines(standard_input: &[u8]) -> Vec<&[u8]> {
+    let mut lines: Vec<&[u8]> = standard_input.split(|&byte| byte == 0x0A).collect();
+    // What stands after the last newline is a line only if it is not empty.
+    if lines.last().is_some_and(|last| last.is_empty()) {
+        lines.pop();
+    }
+    lines
+}
+
+/// "The listing program reads the card from pool.card and reads from standard
+/// input": from the bytes of pool.card, if it is there, and those of standard
+/// input to the text printed.
+pub fn listing(pool_card: Option<&[u8]>, standard_input: &[u8]) -> String {
+    // "A missing pool.card, or one of more than 8,192 bytes, counts as empty."
+    let card_bytes = match pool_card {
+        Some(bytes) if bytes.len() <= 8_192 => bytes,
+        _ => &[],
+    };
+
+    // "A refused card prints "card", a blank and its number, and nothing more"
+    let card = match read_card(card_bytes) {
+        Ok(card) => card,
+        Err(Refusal(number)) => return format!("card {number}\n"),
+    };
+
+    // "then K·L over 32,768 prints "card too large"."
+    let k = k_of(card.f, card.l);
+    let file_bytes = k * usize::from(card.l);
+    if file_bytes > 32_768 {
+        return "card too large\n".to_string();
+    }
+
+    let handed = Handed {
+        f: card.f,
+        l: card.l,
+        r: card.r,
+        m: card.m,
+        lo: card.lo,
+        hi: card.hi,
+        weights: &card_bytes[WEIGHTS_START..],
+    };
+
+    // "Its shelf is 65,536 bytes; reads past that are refused under 16."
+    let mut shelf = vec![0; 65_536];
+    let mut count = 0;
+    let mut reads = 0;
+    let mut accepted = 0;
+    let mut repeated = 0;
+    let mut refused = 0;
+    for line in lines(standard_input) {
+        reads += 1;
+        match shelve(&handed, line, &mut shelf, count) {
+            Ok(Shelved::Accepted { count: after }) => {
+                accepted += 1;
+                count = after;
+            }
+            Ok(Shelved::Repeat { count: after }) => {
+                repeated += 1;
+                count = after;
+            }
+            Err(_) => refused += 1,
+        }
+    }
+
+    let mut file = vec![0; file_bytes];
+    let mut marks = vec![0; k];
+    let mut number_list = vec![0; card.d];
+    let restored = restore(
+        &handed,
+        &shelf,
+        count,
+        &mut file,
+        &mut marks,
+        &mut number_list,
+    )
+    .expect("the card is accepted, the shelf is ours and the buffers are as long as asked");
+
+    // "print two lines: lines read and how they were answered; then K and the
+    // restore's three numbers."
+    format!(
+        "reads {reads} accepted {accepted} repeated {repeated} refused {refused}\n\
+         segments {k} present {} sweeps {} contradictions {}\n",
+        restored.present, restored.sweeps, restored.contradictions
+    )
+}
+
+#[cfg(test)]
+mod tests {
+    use super::*;
+    use crate::check_bytes_letters_screen::{letters_of_bytes, strand_bytes};
+
+    const P: [u8; 28] = [
+        0x01, 0x00, 0x06, 0x00, 0x00, 0x00, 0x04, 0x01, 0x02, //
+        0x02, 0x00, 0x05, 0x0F, 0x00, 0xD6, 0x03, 0xE8, //
+        0x03, 0x00, 0x08, 0x00, 0x00, 0x00, 0x01, 0x00, 0x00, 0x00, 0x01,
+    ];
+
+    const FIVE_LINES: &[u8] = b"AAAAAAAAAAAAAAAGCGGCGTCCTCTG
+AAAAAAAAAAAAAAACTGCAATCGTCAT
+AAAAAAAAAAAAAAATAGCTCGAACACA
+AAAAAAAAAAAAAAACTGCAATCGTCAT
+AAAN
+";
+
+    /// The listing of the bench examples.
+    #[test]
+    fn bench_listing() {
+        let expected = "reads 5 accepted 3 repeated 1 refused 1\n\
+                        segments 4 present 3 sweeps 3 contradictions 0\n";
+        assert_eq!(listing(Some(&P), FIVE_LINES), expected);
+        // "a last line without newline counts"
+        assert_eq!(
+            listing(Some(&P), &FIVE_LINES[..FIVE_LINES.len() - 1]),
+            expected
+        );
+    }
+
+    /// Bench example: "An empty shelf: present 0, sweeps 1."
+    #[test]
+    fn bench_empty_shelf() {
+        assert_eq!(
+            listing(Some(&P), b""),
+            "reads 0 accepted 0 repeated 0 refused 0\n\
+             segments 4 present 0 sweeps 1 contradictions 0\n"
+        );
+    }
+
+    #[test]
+    fn what_lines_are() {
+        assert_eq!(lines(b""), Vec::<&[u8]>::new());
+        assert_eq!(lines(b"\n"), [b""]);
+        assert_eq!(lines(b"\n\n"), [b"", b""]);
+        assert_eq!(lines(b"A"), [b"A"]);
+        assert_eq!(lines(b"A\n"), [b"A"]);
+        assert_eq!(lines(b"A\n\nB"), [&b"A"[..], b"", b"B"]);
+        assert_eq!(lines(b"A\r\n\0 B"), [&b"A\r"[..], b"\0 B"]);
+        assert_eq!(
+            listing(Some(&P), b"\n\nAAAAAAAAAAAAAAACTGCAATCGTCAT\r\n"),
+            "reads 3 accepted 0 repeated 0 refused 3\n\
+             segments 4 present 0 sweeps 1 contradictions 0\n"
+        );
+    }
+
+    #[test]
+    fn refused_cards() {
+        assert_eq!(listing(None, FIVE_LINES), "card 1\n");
+        assert_eq!(listing(Some(&[]), FIVE_LINES), "card 1\n");
+        let mut card = P;
+        card[8] = 5;
+        assert_eq!(listing(Some(&card), FIVE_LINES), "card 2\n");
+        let mut card = P;
+        card[12] = 0;
+        assert_eq!(listing(Some(&card), FIVE_LINES), "card 3\n");
+        let mut card = P;
+        card[20] = 255;
+        card[24] = 255;
+        assert_eq!(listing(Some(&card), FIVE_LINES), "card 4\n");
+    }
+
+    fn card_with(f: u32, l: u8, d: usize) -> Vec<u8> {
+        let mut card = vec![1, 0, 6];
+        card.extend_from_slice(&f.to_be_bytes());
+        card.extend_from_slice(&[l, 2]);
+        card.extend_from_slice(&[2, 0, 5, 20, 0, 0, 3, 0xE8]);
+        card.push(3);
+        card.extend_from_slice(&((4 * d) as u16).to_be_bytes());
+        for _ in 0..d {
+            card.extend_from_slice(&[0, 0, 0, 1]);
+        }
+        card
+    }
+
+    /// Exactly 8,192 bytes are read (and then D is too large); more count as
+    /// empty.
+    #[test]
+    fn length_of_the_card() {
+        let card = card_with(32_768, 1, 2043);
+        assert_eq!(card.len(), 8192);
+        assert_eq!(listing(Some(&card), b""), "card 4\n");
+        let card = card_with(32_768, 1, 2044);
+        assert_eq!(card.len(), 8196);
+        assert_eq!(listing(Some(&card), b""), "card 1\n");
+    }
+
+    #[test]
+    fn card_too_large() {
+        assert_eq!(
+            listing(Some(&card_with(32_768, 1, 1)), b""),
+            "reads 0 accepted 0 repeated 0 refused 0\n\
+             segments 32768 present 0 sweeps 1 contradictions 0\n"
+        );
+        assert_eq!(
+            listing(Some(&card_with(32_769, 1, 1)), b""),
+            "card too large\n"
+        );
+        // K·L counts, not F: 32,768 is no multiple of 63.
+        assert_eq!(
+            listing(Some(&card_with(32_768, 63, 1)), b""),
+            "card too large\n"
+        );
+        assert_eq!(
+            listing(Some(&card_with(32_760, 63, 1)), b""),
+            "reads 0 accepted 0 repeated 0 refused 0\n\
+             segments 520 present 0 sweeps 1 contradictions 0\n"
+        );
+        assert_eq!(
+            listing(Some(&card_with(8_388_608, 64, 1)), b"A"),
+            "card too large\n"
+        );
+        // A refusal comes before "too large".
+        assert_eq!(listing(Some(&card_with(8_388_608, 1, 1)), b""), "card 2\n");
+    }
+
+    /// "Its shelf is 65,536 bytes; reads past that are refused under 16": with
+    /// L = 64 there is space for 963 records.
+    #[test]
+    fn full_shelf() {
+        let card = card_with(64, 64, 1);
+        let mut input = Vec::new();
+        for seed in 1..=1000u32 {
+            // A seed spread over all four bytes and a payload without long runs.
+            let seed = seed.wrapping_mul(0x9E37_79B1);
+            let payload = [0x1B; 64];
+            input.extend_from_slice(&letters_of_bytes(&strand_bytes(seed, &payload, 2)));
+            input.push(b'\n');
+        }
+        assert_eq!(
+            listing(Some(&card), &input),
+            "reads 1000 accepted 963 repeated 0 refused 37\n\
+             segments 1 present 1 sweeps 2 contradictions 0\n"
+        );
+    }
+
+    /// Another payload under a seed already there is refused (15).
+    #[test]
+    fn other_payload_is_refused() {
+        let mut input = FIVE_LINES.to_vec();
+        input.extend_from_slice(&letters_of_bytes(&strand_bytes(1, &[0x1B], 2)));
+        let mut card = P;
+        card[13] = 0;
+        card[14] = 0; // lo
+        assert_eq!(
+            listing(Some(&card), &input),
+            "reads 6 accepted 3 repeated 1 refused 2\n\
+             segments 4 present 3 sweeps 3 contradictions 0\n"
+        );
+    }
+}

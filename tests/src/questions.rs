@@ -1,0 +1,269 @@
+//! Section "Questions in their order".
+//!
+//! Each question is one function that says yes (true) or no (false) and quotes
+//! its line. The calls ask them in the order shown there.
+
+use crate::pool_card::{k_of, numbers_of_weights, sum_of_weights};
+
+/// "The first "no" gives the number; a refusal holds that number only, and
+/// changes no buffer and no shelf count."
+#[derive(Clone, Copy, Debug, PartialEq, Eq)]
+pub struct Refusal(pub u8);
+
+/// Turns a "no" into the refusal with the question's number.
+pub(crate) fn ask(yes: bool, number: u8) -> Result<(), Refusal> {
+    if yes {
+        Ok(())
+    } else {
+        Err(Refusal(number))
+    }
+}
+
+/// "Every other call has 2 to 4 first, then its own, in the order shown."
+///
+/// May be handed any values and any length of weights.
+pub fn questions_2_to_4(
+    f: u32,
+    l: u8,
+    r: u8,
+    m: u8,
+    lo: u16,
+    hi: u16,
+    weights: &[u8],
+) -> Result<(), Refusal> {
+    ask(question_2(f, l, r), 2)?;
+    ask(question_3(m, lo, hi), 3)?;
+    ask(question_4(k_of(f, l), weights), 4)
+}
+
+/// "F 1 to 8,388,608, L 1 to 64, R 2 or 4, K at most 131,072? 2"
+pub fn question_2(f: u32, l: u8, r: u8) -> bool {
+    (1..=8_388_608).contains(&f)
+        && (1..=64).contains(&l)
+        && (r == 2 || r == 4)
+        && k_of(f, l) <= 131_072
+}
+
+/// "m 1 to 20, lo ≤ hi ≤ 1000? 3"
+pub fn question_3(m: u8, lo: u16, hi: u16) -> bool {
+    (1..=20).contains(&m) && lo <= hi && hi <= 1000
+}
+
+/// "Bytes of the weights a multiple of 4, D from 1 to the smaller of K and
+/// 1,024, weights summing to 1 to 4,294,967,295? 4"
+pub fn question_4(k: usize, weights: &[u8]) -> bool {
+    if weights.len() % 4 != 0 {
+        return false;
+    }
+    let d = weights.len() / 4;
+    if d < 1 || d > k.min(1024) {
+        return false;
+    }
+    let sum = sum_of_weights(&numbers_of_weights(weights));
+    (1..=4_294_967_295).contains(&sum)
+}
+
+/// "Writer: file length F? 5."
+pub fn question_5(file_length: usize, f: u32) -> bool {
+    file_length == f as usize
+}
+
+/// "Start not 0? 6."
+pub fn question_6(start: u32) -> bool {
+    start != 0
+}
+
+/// "Wanted at most 1,000,000 and buffer at least wanted times (n+1)? 7."
+pub fn question_7(wanted: usize, buffer_length: usize, n_bases: usize) -> bool {
+    wanted <= 1_000_000 && buffer_length as u128 >= wanted as u128 * (n_bases as u128 + 1)
+}
+
+/// "Number list at least D long? 8"
+pub fn question_8(list_length: usize, d: usize) -> bool {
+    list_length >= d
+}
+
+/// "Read check: n letters? 9."
+pub fn question_9(read_length: usize, n_bases: usize) -> bool {
+    read_length == n_bases
+}
+
+/// "All of A, C, G, T? 10."
+pub fn question_10(read: &[u8]) -> bool {
+    read.iter()
+        .all(|&letter| letter == b'A' || letter == b'C' || letter == b'G' || letter == b'T')
+}
+
+/// "Check sums all 0? 11."
+pub fn question_11(check_sums: [u8; 4]) -> bool {
+    check_sums == [0, 0, 0, 0]
+}
+
+/// "Seed not 0? 12."
+pub fn question_12(seed: u32) -> bool {
+    seed != 0
+}
+
+/// "Screen passed? 13."
+pub fn question_13(read: &[u8], m: u8, lo: u16, hi: u16) -> bool {
+    crate::check_bytes_letters_screen::screen(read, m, lo, hi)
+}
+
+/// "Shelving: count times (4+L) within the shelf? 14."
+pub fn question_14(count: usize, record_length: usize, shelf_length: usize) -> bool {
+    count as u128 * record_length as u128 <= shelf_length as u128
+}
+
+/// "The first record of this seed, if any, has this payload? 15."
+pub fn question_15(first_record_payload: Option<&[u8]>, payload: &[u8]) -> bool {
+    match first_record_payload {
+        None => true,
+        Some(on_the_shelf) => on_the_shelf == payload,
+    }
+}
+
+/// "If the seed is new, space for a record? 16"
+pub fn question_16_shelf(count: usize, record_length: usize, shelf_length: usize) -> bool {
+    (count as u128 + 1) * record_length as u128 <= shelf_length as u128
+}
+
+/// "Then, in the C form alone: buffer at least 4 + L bytes? 16"
+pub fn question_16_c_form(buffer_length: usize, l: u8) -> bool {
+    buffer_length >= 4 + usize::from(l)
+}
+
+/// "No seed 0 on the shelf? 17."
+pub fn question_17(seeds_on_the_shelf: &[u32]) -> bool {
+    seeds_on_the_shelf.iter().all(|&seed| seed != 0)
+}
+
+/// "File at least K·L, marks at least K? 18."
+pub fn question_18(file_length: usize, marks_length: usize, k: usize, l: u8) -> bool {
+    file_length >= k * usize::from(l) && marks_length >= k
+}
+
+#[cfg(test)]
+mod tests {
+    use super::*;
+
+    fn weights(numbers: &[u32]) -> Vec<u8> {
+        numbers.iter().flat_map(|n| n.to_be_bytes()).collect()
+    }
+
+    fn two_to_four(f: u32, l: u8, r: u8, m: u8, lo: u16, hi: u16, w: &[u8]) -> u8 {
+        match questions_2_to_4(f, l, r, m, lo, hi, w) {
+            Ok(()) => 0,
+            Err(Refusal(number)) => number,
+        }
+    }
+
+    /// Bench example: "D=4 with K=4 is taken, D=5 is 4; weights all 0 are 4."
+    #[test]
+    fn bench_d_and_weights() {
+        assert_eq!(two_to_four(4, 1, 2, 15, 214, 1000, &weights(&[1; 4])), 0);
+        assert_eq!(two_to_four(4, 1, 2, 15, 214, 1000, &weights(&[1; 5])), 4);
+        assert_eq!(two_to_four(4, 1, 2, 15, 214, 1000, &weights(&[0; 4])), 4);
+        assert_eq!(two_to_four(4, 1, 2, 15, 214, 1000, &weights(&[0, 0])), 4);
+    }
+
+    #[test]
+    fn question_2_edges() {
+        let w = weights(&[1]);
+        for (f, l, r, expected) in [
+            (0, 1, 2, 2),
+            (1, 1, 2, 0),
+            (131_072, 1, 2, 0),
+            (131_073, 1, 2, 2),
+            (262_144, 2, 4, 0),
+            (262_145, 2, 4, 2),
+            (8_388_608, 64, 4, 0),
+            (8_388_608, 63, 4, 2),
+            (8_388_609, 64, 4, 2),
+            (u32::MAX, 64, 4, 2),
+            (u32::MAX, 0, 4, 2),
+            (1, 0, 2, 2),
+            (1, 64, 2, 0),
+            (1, 65, 2, 2),
+            (1, 255, 2, 2),
+            (1, 1, 0, 2),
+            (1, 1, 1, 2),
+            (1, 1, 3, 2),
+            (1, 1, 4, 0),
+            (1, 1, 5, 2),
+            (1, 1, 255, 2),
+        ] {
+            assert_eq!(
+                two_to_four(f, l, r, 20, 0, 1000, &w),
+                expected,
+                "{f} {l} {r}"
+            );
+        }
+    }
+
+    #[test]
+    fn question_3_edges() {
+        let w = weights(&[1]);
+        for (m, lo, hi, expected) in [
+            (0, 0, 1000, 3),
+            (1, 0, 1000, 0),
+            (20, 0, 1000, 0),
+            (21, 0, 1000, 3),
+            (255, 0, 1000, 3),
+            (5, 1000, 1000, 0),
+            (5, 0, 0, 0),
+            (5, 500, 499, 3),
+            (5, 0, 1001, 3),
+            (5, 1001, 1001, 3),
+            (5, 65_535, 65_535, 3),
+            (5, 1001, 1000, 3),
+        ] {
+            assert_eq!(
+                two_to_four(1, 1, 2, m, lo, hi, &w),
+                expected,
+                "{m} {lo} {hi}"
+            );
+        }
+    }
+
+    #[test]
+    fn question_4_edges() {
+        let go = |k: u32, w: &[u8]| two_to_four(k, 1, 2, 20, 0, 1000, w);
+        assert_eq!(go(4, &[]), 4);
+        assert_eq!(go(4, &[0, 0, 1]), 4);
+        assert_eq!(go(4, &[0, 0, 0, 1]), 0);
+        assert_eq!(go(4, &[0, 0, 0, 1, 0]), 4);
+        assert_eq!(go(2000, &weights(&[1; 1024])), 0);
+        assert_eq!(go(2000, &weights(&[1; 1025])), 4);
+        assert_eq!(go(1024, &weights(&[1; 1024])), 0);
+        assert_eq!(go(1023, &weights(&[1; 1024])), 4);
+        assert_eq!(go(4, &weights(&[u32::MAX])), 0);
+        assert_eq!(go(4, &weights(&[u32::MAX, 0])), 0);
+        assert_eq!(go(4, &weights(&[u32::MAX, 1])), 4);
+        assert_eq!(go(4, &weights(&[u32::MAX - 1, 1])), 0);
+        assert_eq!(go(4, &weights(&[u32::MAX; 4])), 4);
+        assert_eq!(go(2000, &weights(&[u32::MAX; 1024])), 4);
+        assert_eq!(go(4, &weights(&[0x8000_0000, 0x8000_0000])), 4);
+        assert_eq!(go(4, &weights(&[0, 0, 0, 1])), 0);
+    }
+
+    /// "The first "no" gives the number": 2 before 3 before 4.
+    #[test]
+    fn lower_numbers_come_first() {
+        assert_eq!(two_to_four(0, 0, 0, 0, 1, 0, &[]), 2);
+        assert_eq!(two_to_four(1, 1, 2, 0, 1, 0, &[]), 3);
+        assert_eq!(two_to_four(1, 1, 2, 1, 0, 0, &[]), 4);
+    }
+
+    /// Largest numbers do not wrap.
+    #[test]
+    fn large_numbers() {
+        assert!(!question_14(usize::MAX, 5, usize::MAX));
+        assert!(!question_14(usize::MAX, 68, 65_536));
+        assert!(question_14(0, 68, 0));
+        assert!(!question_7(usize::MAX, usize::MAX, 288));
+        assert!(!question_7(1_000_001, usize::MAX, 288));
+        assert!(question_7(1_000_000, 289_000_000, 288));
+        assert!(!question_7(1_000_000, 288_999_999, 288));
+        assert!(!question_16_shelf(usize::MAX, 5, usize::MAX));
+    }
+}

@@ -1,0 +1,241 @@
+//! Every bench example of document 01, over the public calls alone, in its
+//! order.
+
+use second::check_bytes_letters_screen::{
+    check_bytes, check_sums, count_gc, letters_of_bytes, longest_run, strand_bytes,
+};
+use second::droplet::{payload, set_of_segments};
+use second::pool_card::WEIGHTS_START;
+use second::*;
+
+fn hex(text: &str) -> Vec<u8> {
+    let digits: Vec<u32> = text.chars().filter_map(|c| c.to_digit(16)).collect();
+    digits
+        .chunks(2)
+        .map(|pair| (pair[0] * 16 + pair[1]) as u8)
+        .collect()
+}
+
+/// "Card P, hex"
+fn card_p() -> Vec<u8> {
+    hex("01 0006 00000004 01 02 / 02 0005 0F 00D6 03E8 / 03 0008 00000001 00000001")
+}
+
+/// "File Q: hex 1B 27 4E E4."
+fn file_q() -> Vec<u8> {
+    hex("1B 27 4E E4")
+}
+
+fn handed(card: &[u8]) -> Handed<'_> {
+    let numbers = read_card(card).unwrap();
+    Handed {
+        f: numbers.f,
+        l: numbers.l,
+        r: numbers.r,
+        m: numbers.m,
+        lo: numbers.lo,
+        hi: numbers.hi,
+        weights: &card[WEIGHTS_START..],
+    }
+}
+
+const FIVE_LINES: &str = "\
+AAAAAAAAAAAAAAAGCGGCGTCCTCTG
+AAAAAAAAAAAAAAACTGCAATCGTCAT
+AAAAAAAAAAAAAAATAGCTCGAACACA
+AAAAAAAAAAAAAAACTGCAATCGTCAT
+AAAN
+";
+
+const TWO_LINES: &str = "\
+reads 5 accepted 3 repeated 1 refused 1
+segments 4 present 3 sweeps 3 contradictions 0
+";
+
+/// "So F=4, L=1, R=2, K=4, m=15, lo=214, hi=1000, n=28."
+#[test]
+fn card() {
+    let card = card_p();
+    assert_eq!(
+        read_card(&card),
+        Ok(Card {
+            f: 4,
+            l: 1,
+            r: 2,
+            m: 15,
+            lo: 214,
+            hi: 1000,
+            d: 2
+        })
+    );
+    assert_eq!(handed(&card).k(), 4);
+    assert_eq!(handed(&card).n_bases(), 28);
+}
+
+/// "Seed 1 draws 632,806 then 68,359,563."
+#[test]
+fn draws() {
+    let mut state = DrawState::of_seed(1);
+    assert_eq!((state.draw(), state.draw()), (632_806, 68_359_563));
+}
+
+/// "Under P, seed 1 picks {3}, seed 2 {1, 2}, seed 3 {1}."
+#[test]
+fn sets() {
+    let card = card_p();
+    let pick = |seed| {
+        let mut set = set_of_segments(seed, handed(&card).weights, 4);
+        set.sort();
+        set
+    };
+    assert_eq!(pick(1), [3]);
+    assert_eq!(pick(2), [1, 2]);
+    assert_eq!(pick(3), [1]);
+}
+
+/// "R=2: message 01 has check bytes 03 02; message 01 00 has 07 06."
+#[test]
+fn two_check_bytes() {
+    assert_eq!(check_bytes(&hex("01"), 2), hex("03 02"));
+    assert_eq!(check_bytes(&hex("01 00"), 2), hex("07 06"));
+    assert_eq!(check_sums(&hex("01 03 02"), 2), [0; 4]);
+    assert_eq!(check_sums(&hex("01 00 07 06"), 2), [0; 4]);
+}
+
+/// "Seed 1 of Q: hex 00000001 E4 36 D3, AAAAAAAAAAAAAAACTGCAATCGTCAT, longest
+/// run 15, g=6."
+#[test]
+fn strand_of_seed_1() {
+    let card = card_p();
+    let p = handed(&card);
+    let set = set_of_segments(1, p.weights, p.k());
+    let bytes = strand_bytes(1, &payload(&set, &file_q(), p.l), p.r);
+    assert_eq!(bytes, hex("00000001 E4 36 D3"));
+    let letters = letters_of_bytes(&bytes);
+    assert_eq!(letters, b"AAAAAAAAAAAAAAACTGCAATCGTCAT");
+    assert_eq!(longest_run(&letters), 15);
+    assert_eq!(count_gc(&letters), 6);
+
+    let mut buffer = [0x3F; 30];
+    let answer = write(&p, &file_q(), 1, 1, 1, &mut buffer, &mut [0; 2]);
+    assert_eq!(
+        answer,
+        Ok(Written {
+            stop: Stop::Done,
+            made: 1,
+            tried: 1,
+            next_seed: 2
+        })
+    );
+    assert_eq!(&buffer, b"AAAAAAAAAAAAAAACTGCAATCGTCAT\n?");
+}
+
+/// "It passes at m=15, lo=214; m=14 gives 13, and so does lo=215."
+#[test]
+fn screen_of_seed_1() {
+    let card = card_p();
+    let p = handed(&card);
+    let read = b"AAAAAAAAAAAAAAACTGCAATCGTCAT";
+    let droplet = read_check(&p, read).unwrap();
+    assert_eq!((droplet.seed, droplet.payload[0]), (1, 0xE4));
+    assert_eq!(read_check(&Handed { m: 14, ..p }, read), Err(Refusal(13)));
+    assert_eq!(read_check(&Handed { lo: 215, ..p }, read), Err(Refusal(13)));
+}
+
+/// "Hex 80000000 steps to 000000C5; 00000001 to 00000002."
+#[test]
+fn steps() {
+    assert_eq!(schedule_step(0x8000_0000), 0x0000_00C5);
+    assert_eq!(schedule_step(0x0000_0001), 0x0000_0002);
+}
+
+/// "28 letters A under P: 12, since the check sums are 0."
+#[test]
+fn twenty_eight_letters_a() {
+    let card = card_p();
+    assert_eq!(check_sums(&[0; 7], 2), [0; 4]);
+    assert_eq!(read_check(&handed(&card), &[b'A'; 28]), Err(Refusal(12)));
+}
+
+/// "D=4 with K=4 is taken, D=5 is 4; weights all 0 are 4."
+#[test]
+fn plans() {
+    let with_weights = |weights: &[u32]| {
+        let mut card = card_p()[..17].to_vec();
+        card.push(3);
+        card.extend_from_slice(&(4 * weights.len() as u16).to_be_bytes());
+        for weight in weights {
+            card.extend_from_slice(&weight.to_be_bytes());
+        }
+        read_card(&card).map(|card| card.d)
+    };
+    assert_eq!(with_weights(&[1; 4]), Ok(4));
+    assert_eq!(with_weights(&[1; 5]), Err(Refusal(4)));
+    for d in 1..=4 {
+        assert_eq!(with_weights(&vec![0; d]), Err(Refusal(4)));
+    }
+}
+
+/// "Reads of seeds 2, 1, 3 in that order: file 00 27 4E E4, marks 0 1 1 1,
+/// present 3, sweeps 3."
+#[test]
+fn reads_of_seeds_2_1_3() {
+    let card = card_p();
+    let p = handed(&card);
+    let mut shelf = [0xFF; 100];
+    let mut count = 0;
+    for read in FIVE_LINES.lines().take(3) {
+        let Ok(Shelved::Accepted { count: after }) = shelve(&p, read.as_bytes(), &mut shelf, count)
+        else {
+            panic!("not accepted: {read}");
+        };
+        assert_eq!(after, count + 1);
+        count = after;
+    }
+    let mut file = [0xFF; 4];
+    let mut marks = [0xFF; 4];
+    let answer = restore(&p, &shelf, count, &mut file, &mut marks, &mut [0; 2]);
+    assert_eq!(
+        answer,
+        Ok(Restored {
+            present: 3,
+            sweeps: 3,
+            contradictions: 0
+        })
+    );
+    assert_eq!(file.to_vec(), hex("00 27 4E E4"));
+    assert_eq!(marks, [0, 1, 1, 1]);
+}
+
+/// "An empty shelf: present 0, sweeps 1."
+#[test]
+fn empty_shelf() {
+    let card = card_p();
+    let mut file = [0xFF; 4];
+    let mut marks = [0xFF; 4];
+    let answer = restore(
+        &handed(&card),
+        &[0xFF; 9],
+        0,
+        &mut file,
+        &mut marks,
+        &mut [0; 2],
+    )
+    .unwrap();
+    assert_eq!(
+        (answer.present, answer.sweeps, answer.contradictions),
+        (0, 1, 0)
+    );
+}
+
+/// "Under P these five lines .. print two lines" and "(AAAN is refused with 9.)"
+#[test]
+fn five_lines() {
+    let card = card_p();
+    assert_eq!(listing(Some(&card), FIVE_LINES.as_bytes()), TWO_LINES);
+    assert_eq!(read_check(&handed(&card), b"AAAN"), Err(Refusal(9)));
+    assert_eq!(
+        shelve(&handed(&card), b"AAAN", &mut [0; 50], 0),
+        Err(Refusal(9))
+    );
+}

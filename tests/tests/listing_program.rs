@@ -1,0 +1,65 @@
+//! The listing program, run as a program.
+
+use std::io::Write;
+use std::path::PathBuf;
+use std::process::{Command, Stdio};
+
+const P: [u8; 28] = [
+    0x01, 0x00, 0x06, 0x00, 0x00, 0x00, 0x04, 0x01, 0x02, //
+    0x02, 0x00, 0x05, 0x0F, 0x00, 0xD6, 0x03, 0xE8, //
+    0x03, 0x00, 0x08, 0x00, 0x00, 0x00, 0x01, 0x00, 0x00, 0x00, 0x01,
+];
+
+fn run(folder: &str, card: Option<&[u8]>, input: &[u8]) -> String {
+    let mut place = PathBuf::from(env!("CARGO_TARGET_TMPDIR"));
+    place.push(folder);
+    let _ = std::fs::remove_dir_all(&place);
+    std::fs::create_dir_all(&place).unwrap();
+    if let Some(bytes) = card {
+        std::fs::write(place.join("pool.card"), bytes).unwrap();
+    }
+    let mut child = Command::new(env!("CARGO_BIN_EXE_second-listing"))
+        .current_dir(&place)
+        .stdin(Stdio::piped())
+        .stdout(Stdio::piped())
+        .spawn()
+        .unwrap();
+    child.stdin.take().unwrap().write_all(input).unwrap();
+    let output = child.wait_with_output().unwrap();
+    assert!(output.status.success());
+    String::from_utf8(output.stdout).unwrap()
+}
+
+#[test]
+fn bench_listing() {
+    let input = b"AAAAAAAAAAAAAAAGCGGCGTCCTCTG
+AAAAAAAAAAAAAAACTGCAATCGTCAT
+AAAAAAAAAAAAAAATAGCTCGAACACA
+AAAAAAAAAAAAAAACTGCAATCGTCAT
+AAAN
+";
+    assert_eq!(
+        run("bench", Some(&P), input),
+        "reads 5 accepted 3 repeated 1 refused 1\n\
+         segments 4 present 3 sweeps 3 contradictions 0\n"
+    );
+}
+
+#[test]
+fn missing_card() {
+    assert_eq!(run("missing", None, b"AAAN\n"), "card 1\n");
+}
+
+#[test]
+fn card_too_long() {
+    assert_eq!(run("long", Some(&[1; 8193]), b"AAAN\n"), "card 1\n");
+}
+
+#[test]
+fn no_reads() {
+    assert_eq!(
+        run("none", Some(&P), b""),
+        "reads 0 accepted 0 repeated 0 refused 0\n\
+         segments 4 present 0 sweeps 1 contradictions 0\n"
+    );
+}

@@ -1,0 +1,135 @@
+//! Write, read back in another order with repeats and losses, shelve, restore.
+
+use second::*;
+
+fn bytes_of(weights: &[u32]) -> Vec<u8> {
+    weights.iter().flat_map(|w| w.to_be_bytes()).collect()
+}
+
+fn next(state: &mut u32, below: usize) -> usize {
+    *state = state.wrapping_mul(1_664_525).wrapping_add(1_013_904_223);
+    (*state >> 4) as usize % below
+}
+
+#[test]
+fn a_file_comes_back() {
+    let file: Vec<u8> = (0..1990u32)
+        .map(|i| (i.wrapping_mul(2_654_435_761) >> 24) as u8)
+        .collect();
+    let mut weights = vec![60u32, 500, 170, 80, 50, 35, 25, 20];
+    weights.resize(40, 2);
+    let weights = bytes_of(&weights);
+    let handed = Handed {
+        f: 1990,
+        l: 20,
+        r: 4,
+        m: 4,
+        lo: 400,
+        hi: 600,
+        weights: &weights,
+    };
+    assert_eq!((handed.k(), handed.n_bases()), (100, 112));
+
+    let mut printed = vec![0; 300 * 113];
+    let mut list = [0; 40];
+    let answer = write(
+        &handed,
+        &file,
+        0xACE1_2357,
+        300,
+        100_000,
+        &mut printed,
+        &mut list,
+    )
+    .unwrap();
+    assert_eq!((answer.stop, answer.made), (Stop::Done, 300));
+    let strands: Vec<&[u8]> = printed.chunks(113).map(|line| &line[..112]).collect();
+
+    for trial in 1..=20u32 {
+        let mut state = trial;
+        let mut shelf = vec![0xEE; 250 * 24 + 5];
+        let mut count = 0;
+        for _ in 0..400 {
+            let read = strands[next(&mut state, strands.len())];
+            match shelve(&handed, read, &mut shelf, count) {
+                Ok(Shelved::Accepted { count: after }) => count = after,
+                Ok(Shelved::Repeat { count: after }) => assert_eq!(after, count),
+                Err(Refusal(number)) => assert_eq!(number, 16),
+            }
+        }
+        let mut back = vec![0xEE; 2003];
+        let mut marks = vec![0xEE; 101];
+        let restored = restore(&handed, &shelf, count, &mut back, &mut marks, &mut list).unwrap();
+        assert_eq!(restored.contradictions, 0);
+        assert!(restored.sweeps <= restored.present + 1);
+        assert_eq!(
+            restored.present,
+            marks[..100].iter().filter(|&&m| m == 1).count()
+        );
+        let mut whole = file.clone();
+        whole.resize(2000, 0);
+        for i in 0..100 {
+            let place = 20 * i..20 * (i + 1);
+            if marks[i] == 1 {
+                assert_eq!(back[place.clone()], whole[place]);
+            } else {
+                assert_eq!(marks[i], 0);
+                assert_eq!(back[place], [0; 20]);
+            }
+        }
+        assert_eq!(back[2000..], [0xEE; 3]);
+        assert_eq!(marks[100], 0xEE);
+    }
+
+    // All strands in order: the whole file.
+    let mut shelf = vec![0; 300 * 24];
+    let mut count = 0;
+    for strand in &strands {
+        let Ok(Shelved::Accepted { count: after }) = shelve(&handed, strand, &mut shelf, count)
+        else {
+            panic!("a strand just written is new and legal");
+        };
+        count = after;
+    }
+    let mut back = vec![0; 2000];
+    let mut marks = vec![0; 100];
+    let restored = restore(&handed, &shelf, count, &mut back, &mut marks, &mut list).unwrap();
+    assert_eq!((restored.present, restored.contradictions), (100, 0));
+    assert_eq!(back[..1990], file);
+}
+
+/// The largest job: F = 8,388,608, L = 64, R = 4, K = 131,072, D = 1,024.
+#[test]
+fn the_largest_card() {
+    let file: Vec<u8> = (0..8_388_608u32)
+        .map(|i| (i.wrapping_mul(2_654_435_761) >> 24) as u8)
+        .collect();
+    let weights = bytes_of(&[4_194_303; 1024]);
+    let handed = Handed {
+        f: 8_388_608,
+        l: 64,
+        r: 4,
+        m: 20,
+        lo: 0,
+        hi: 1000,
+        weights: &weights,
+    };
+    let mut printed = vec![0; 3 * 289];
+    let mut list = vec![0; 1024];
+    let answer = write(&handed, &file, u32::MAX, 3, 30, &mut printed, &mut list).unwrap();
+    assert_eq!((answer.stop, answer.made), (Stop::Done, 3));
+    let mut shelf = vec![0; 3 * 68];
+    let mut count = 0;
+    for line in printed.chunks(289) {
+        assert_eq!(line[288], b'\n');
+        match shelve(&handed, &line[..288], &mut shelf, count) {
+            Ok(Shelved::Accepted { count: after }) => count = after,
+            other => panic!("{other:?}"),
+        }
+    }
+    let mut back = vec![1; 8_388_608];
+    let mut marks = vec![1; 131_072];
+    let restored = restore(&handed, &shelf, 3, &mut back, &mut marks, &mut list).unwrap();
+    assert_eq!(restored.present, marks.iter().filter(|&&m| m == 1).count());
+    assert_eq!(restored.contradictions, 0);
+}
