@@ -35,7 +35,6 @@ pub mod NeverRefused15
 pub mod RightSheets
 pub mod FromFileToVault
 pub mod WrittenParts
-pub mod StartsWith
 pub mod Unmarked
 pub mod DrawnFront
 pub mod RecordsAt

@@ -7,9 +7,10 @@ ghost use Rattle.field.specs.Generator.{numberDrawn};
 ghost use Rattle.droplet.specs.PoolCard.{weightCount};
 ghost use Rattle.droplet.specs.Droplet.{joining, pickFrom, payload};
 ghost use Rattle.droplet.specs.Loops.{Drawable};
-ghost use Rattle.decoder.specs.Shelf.{recordFrom, records, sameBytes};
+ghost use Rattle.decoder.specs.Shelf.{recordFrom, records};
 ghost use Rattle.decoder.specs.Restorer.{missing, recovered, filled, step, pass, present, peel, restoration, contradicts, contradictions, hasSeed, RestorePromise};
 ghost use Rattle.decoder.specs.Loops.{recordAt, dropletOf, dropletsOf, unmarkedOf, lookedAt, AllBelow, Looked, Seen, Room, Filled, Ended, Recovered, laterRefusal};
+use crate::shelf::starts_with;
 use droplet::card::Card;
 use droplet::card::Plan;
 use droplet::card::PlanAnswer;
@@ -20,8 +21,8 @@ use droplet::droplet::payload_of;
 use droplet::droplet::pick;
 use droplet::droplet::xor_into;
 use droplet::droplet::xor_segment;
-use field::bytes::join;
 use field::generator::Draw;
+use strand::records::seed_of;
 
 // What a restore found: segments present, passes over the records, and records that contradict the segments.
 pub struct Sheet {
@@ -63,14 +64,6 @@ fn record_at(shelf: &[u8], l: usize, i: usize) -> &[u8]
     let a = i * width;
     let e = a + width;
     &shelf[a..e]
-}
-
-// The seed of a record.
-fn seed_of(bytes: &[u8]) -> u32
-    requires { ⌜ 4 ≤ length (now bytes) ⌝ }
-    ensures { λ r. ⌜ r ≡ fromBigEndian (take 4 (now (bytes .entry))) ⌝ }
-{
-    join(bytes[0], bytes[1], bytes[2], bytes[3])
 }
 
 // Question 17: whether one of the first `count` records has seed 0.
@@ -320,21 +313,6 @@ fn peel(
         }
         present += filled;
     }
-}
-
-// Whether `bytes` starts with `front`.
-fn starts_with(bytes: &[u8], front: &[u8]) -> bool
-    requires { ⌜ length (now front) ≤ length (now bytes) ⌝ }
-    ensures { λ r. ⌜ r ≡ sameBytes (take (length (now (front .entry))) (now (bytes .entry))) (now (front .entry)) ⌝ }
-{
-    let mut i = 0;
-    while i < front.len() {
-        if bytes[i] != front[i] {
-            return false;
-        }
-        i += 1;
-    }
-    true
 }
 
 // Whether a record contradicts the segments: all of its own are marked, and their XOR is not its payload.
