@@ -21,6 +21,7 @@ pub mod pool_card;
 pub mod questions;
 pub mod restorer;
 pub mod shelf;
+pub mod vectors;
 pub mod writer;
 
 pub use check_bytes_letters_screen::{read_check, read_check_c_form, Droplet};

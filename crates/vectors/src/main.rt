@@ -1,0 +1,116 @@
+// Runs published Reed-Solomon values and the examples of document 01 that are not starred, and prints what comes out. What it
+// must print stands in the file `stdout`; the second implementation prints the same from its own code.
+use decoder::restorer;
+use decoder::restorer::RestoreAnswer;
+use decoder::shelf;
+use decoder::shelf::StoreAnswer;
+use droplet::card::Card;
+use field::bytes::join;
+use field::check_bytes;
+
+// The words are QR code blocks of 16 data and 10 check bytes. They are 0 at a^0 .. a^9, so their first 2 and 4 check sums are 0.
+// ISO/IEC 18004, Annex I: the symbol of "01234567".
+const ISO: [u8; 26] = [
+    0x10, 0x20, 0x0C, 0x56, 0x61, 0x80, 0xEC, 0x11, 0xEC, 0x11, 0xEC, 0x11, 0xEC, 0x11, 0xEC, 0x11,
+    0xA5, 0x24, 0xD4, 0xC1, 0xED, 0x36, 0xC7, 0x87, 0x2C, 0x55,
+];
+
+// Wikiversity, "Reed-Solomon codes for coders": the encoded message of its examples.
+const WIKIVERSITY: [u8; 26] = [
+    0x40, 0xD2, 0x75, 0x47, 0x76, 0x17, 0x32, 0x06, 0x27, 0x26, 0x96, 0xC6, 0xC6, 0x96, 0x70, 0xEC,
+    0xBC, 0x2A, 0x90, 0x13, 0x6B, 0xAF, 0xEF, 0xFD, 0x4B, 0xE0,
+];
+
+// Four bytes, most significant first.
+fn print_bytes(name: &[u8], bytes: [u8; 4]) {
+    io::write_all(1, name);
+    io::print_hex(1, join(bytes[0], bytes[1], bytes[2], bytes[3]) as u64, 8);
+    io::write_all(1, b"\n");
+}
+
+fn print_number(name: &[u8], n: u64) {
+    io::write_all(1, name);
+    io::print_decimal(1, n);
+}
+
+// The check sums of a word for R = 2 and for R = 4, those past R being 0.
+fn print_sums(name: &[u8], word: &[u8]) {
+    io::write_all(1, name);
+    print_bytes(b" R=2 check sums ", check_bytes::syndromes_of(2, word));
+    io::write_all(1, name);
+    print_bytes(b" R=4 check sums ", check_bytes::syndromes_of(4, word));
+}
+
+// The check bytes of the message 01 are the generator polynomial without its first coefficient, which is 1.
+fn reed_solomon(one: &[u8], message: &[u8]) {
+    print_bytes(b"01 R=2 check bytes ", check_bytes::parity_of(2, one));
+    print_bytes(b"01 R=4 check bytes ", check_bytes::parity_of(4, one));
+    print_bytes(b"12 34 56 R=4 check bytes ", check_bytes::parity_of(4, message));
+}
+
+fn bench_card() -> Card {
+    Card {
+        f: 4,
+        l: 1,
+        r: 2,
+        m: 15,
+        lo: 214,
+        hi: 1000,
+    }
+}
+
+fn print_store(answer: StoreAnswer) {
+    match answer {
+        StoreAnswer::Accepted(n) => print_number(b"accepted, count ", n as u64),
+        StoreAnswer::Repeat(n) => print_number(b"repeat, count ", n as u64),
+        StoreAnswer::Refused(n) => print_number(b"refused ", n as u64),
+    }
+    io::write_all(1, b"\n");
+}
+
+fn print_restore(answer: RestoreAnswer) {
+    match answer {
+        RestoreAnswer::Restored(sheet) => {
+            print_number(b"present ", sheet.present as u64);
+            print_number(b" sweeps ", sheet.passes as u64);
+            print_number(b" contradictions ", sheet.contradictions as u64);
+        }
+        RestoreAnswer::Refused(n) => print_number(b"refused ", n as u64),
+    }
+    io::write_all(1, b"\n");
+}
+
+// "An empty shelf: present 0, sweeps 1"
+fn empty_shelf(weights: &[u8], buffer: &[u8]) {
+    let mut file = [255u8; 4];
+    let mut marks = [255u8; 4];
+    let mut list = [0u32; 2];
+    io::write_all(1, b"empty shelf: ");
+    print_restore(restorer::restore(
+        bench_card(),
+        weights,
+        buffer,
+        0,
+        &mut file,
+        &mut marks,
+        &mut list,
+    ));
+    print_bytes(b"file ", file);
+    print_bytes(b"marks ", marks);
+}
+
+fn main() {
+    reed_solomon(&[1], &[0x12, 0x34, 0x56]);
+    let iso = ISO;
+    print_sums(b"ISO/IEC 18004 word", &iso);
+    let mut word = WIKIVERSITY;
+    print_sums(b"Wikiversity word", &word);
+    word[0] = 0;
+    print_sums(b"Wikiversity word with its first byte 0", &word);
+    let weights = [0, 0, 0, 1, 0, 0, 0, 1];
+    let mut buffer = [255u8; 20];
+    empty_shelf(&weights, &buffer);
+    // "AAAN is refused with 9"
+    io::write_all(1, b"AAAN: ");
+    print_store(shelf::store_read(bench_card(), &weights, &mut buffer, 0, b"AAAN"));
+}

@@ -1,0 +1,5 @@
+//! Prints what the Rattle program `vectors` must print, from this implementation.
+
+fn main() {
+    print!("{}", second::vectors::vectors());
+}

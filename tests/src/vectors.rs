@@ -1,0 +1,84 @@
+//! Published Reed-Solomon values and the examples of document 01 that are not starred, run by this implementation. The text is
+//! what the Rattle program `vectors` must print.
+
+use crate::check_bytes_letters_screen::{check_bytes, check_sums};
+use crate::{restore, shelve, Handed};
+
+/// ISO/IEC 18004, Annex I: the QR code symbol of "01234567", 16 data and 10 check bytes. A word that is 0 at a^0 .. a^9 has its
+/// first 2 and its first 4 check sums 0.
+const ISO: &str = "10200C566180EC11EC11EC11EC11EC11A524D4C1ED36C7872C55";
+
+/// Wikiversity, "Reed-Solomon codes for coders": the encoded message of its examples, 16 data and 10 check bytes. The article
+/// also gives the check sums after its first byte is lost: 64, 192, 93, 231, ..
+const WIKIVERSITY: &str = "40D27547761732062726 96C6C69670EC BC2A90136BAFEFFD4BE0";
+
+fn bytes(hex: &str) -> Vec<u8> {
+    let digits: Vec<u8> = hex.bytes().filter(|b| *b != b' ').collect();
+    digits
+        .chunks(2)
+        .map(|pair| u8::from_str_radix(std::str::from_utf8(pair).unwrap(), 16).unwrap())
+        .collect()
+}
+
+fn hex(bytes: &[u8]) -> String {
+    bytes.iter().map(|b| format!("{b:02x}")).collect()
+}
+
+/// Check bytes as four bytes, those past R being 0.
+fn four(mut check_bytes: Vec<u8>) -> Vec<u8> {
+    check_bytes.resize(4, 0);
+    check_bytes
+}
+
+/// The check bytes of message 01 are the generator polynomial without its first coefficient, 1. For two check bytes it is in
+/// ISO/IEC 18004, Annex A (x^2 + a^25 x + a); for four, and the message 12 34 56, in the Wikiversity article.
+fn reed_solomon() -> String {
+    let mut text = String::new();
+    text += &format!("01 R=2 check bytes {}\n", hex(&four(check_bytes(&[1], 2))));
+    text += &format!("01 R=4 check bytes {}\n", hex(&four(check_bytes(&[1], 4))));
+    let message = [0x12, 0x34, 0x56];
+    text += &format!("12 34 56 R=4 check bytes {}\n", hex(&check_bytes(&message, 4)));
+    let mut lost = bytes(WIKIVERSITY);
+    lost[0] = 0;
+    for (name, word) in [
+        ("ISO/IEC 18004 word", bytes(ISO)),
+        ("Wikiversity word", bytes(WIKIVERSITY)),
+        ("Wikiversity word with its first byte 0", lost),
+    ] {
+        for r in [2, 4] {
+            text += &format!("{name} R={r} check sums {}\n", hex(&check_sums(&word, r)));
+        }
+    }
+    text
+}
+
+/// "An empty shelf: present 0, sweeps 1", and "(AAAN is refused with 9.)"
+fn bench_examples() -> String {
+    let card = Handed {
+        f: 4,
+        l: 1,
+        r: 2,
+        m: 15,
+        lo: 214,
+        hi: 1000,
+        weights: &[0, 0, 0, 1, 0, 0, 0, 1],
+    };
+    let (mut file, mut marks, mut list) = ([255; 4], [255; 4], [0; 2]);
+    let mut buffer = [255; 20];
+    let restored = restore(&card, &buffer, 0, &mut file, &mut marks, &mut list).expect("an empty shelf is restored");
+    let mut text = format!(
+        "empty shelf: present {} sweeps {} contradictions {}\n",
+        restored.present, restored.sweeps, restored.contradictions
+    );
+    text += &format!("file {}\nmarks {}\n", hex(&file), hex(&marks));
+    match shelve(&card, b"AAAN", &mut buffer, 0) {
+        Ok(_) => text += "AAAN: taken\n",
+        Err(refusal) => text += &format!("AAAN: refused {}\n", refusal.0),
+    }
+    text
+}
+
+/// All of them, a line each.
+pub fn vectors() -> String {
+    reed_solomon() + &bench_examples()
+}
