@@ -43,7 +43,7 @@ checks-true r e = go (eqb r 2) refl e
     go true h t = inl (eqb-true r 2 h)
     go false h t = inr (eqb-true r 4 t)
 
-checks-bounds : {r : ℕ} → CheckCount r → (2 ≤ r) × (r ≤ 4)
+pub checks-bounds : {r : ℕ} → CheckCount r → (2 ≤ r) × (r ≤ 4)
 checks-bounds (inl e) = omega arith
 checks-bounds (inr e) = omega arith
 

@@ -20,7 +20,7 @@ use Rattle.field.proofs.Syndromes.{syndromes-vanish}
 use Rattle.droplet.specs.declared.card.Card.{Card}
 use Rattle.droplet.specs.PoolCard.{strandBytes, strandBases}
 use Rattle.droplet.specs.Questions.{cardRefusal}
-use Rattle.droplet.proofs.LegalCard.{legal}
+use Rattle.droplet.proofs.LegalCard.{legal, checks-bounds}
 use Rattle.strand.specs.Letters.{allLetters, wordLetters, lettersWord}
 use Rattle.strand.specs.Screen.{screenPasses}
 use Rattle.strand.specs.ReadCheck.{Reading, droplet, refused, wordSeed, wordPayload, allZero, sumsZero, wordReading, lettersReading, readCheck, strandWord}
@@ -57,9 +57,6 @@ module _ (c : Card) (word : List ℕ) (few : c .r ≤ 4) where
   vanish-sums : Vanishes (c .r) word → sumsZero c word ≡ true
   unfolding sumsZero
   vanish-sums v = rw (syndromes-vanish (c .r) word few .1 v)
-
-most-checks : {r : ℕ} → CheckCount r → r ≤ 4
-most-checks = ⊎-elim (λ e. omega arith) (λ e. omega arith)
 
 -- ---- a word whose check sums are 0 is that of its seed and payload
 
@@ -118,7 +115,7 @@ module _ (c : Card) (weights read : List ℕ) (seed : ℕ) (p : List ℕ) where
       let last = droplet (wordSeed word) (wordPayload c word) in
       let card = asked seed p (lettersReading c read) (eqb (cardRefusal c weights) 0) (cardRefusal c weights) e in
       let fine = eqb-true (cardRefusal c weights) 0 (card .0) in
-      let few = most-checks (legal c weights fine .sizes .check-count) in
+      let few = checks-bounds (legal c weights fine .sizes .check-count) .1 in
       let nine = asked seed p (cond (allLetters read) (wordReading c word) (refused 10)) (eqb (length read) (strandBases c)) 9 (card .1) in
       let ten = asked seed p (wordReading c word) (allLetters read) 10 (nine .1) in
       let eleven = asked seed p (cond (eqb (wordSeed word) 0) (refused 12) (cond (screenPasses c word) last (refused 13))) (sumsZero c word) 11 (ten .1) in
@@ -145,7 +142,7 @@ module _ (c : Card) (weights read : List ℕ) (seed : ℕ) (p : List ℕ) where
   accepted : Spells c weights read seed p → readCheck c weights read ≡ droplet seed p
   unfolding readCheck lettersReading wordReading
   accepted h =
-      let few = most-checks (legal c weights (h .card) .sizes .check-count) in
+      let few = checks-bounds (legal c weights (h .card) .sizes .check-count) .1 in
       let word = strandWord c seed p in
       let n : length read ≡ strandBases c = rw (h .letters) (omega (arith, letters-length word, strand-length c seed p (h .size))) in
       let ten : allLetters read ≡ true = rw (h .letters) (letters-all word) in

@@ -1,7 +1,6 @@
 -- `fill_word` meets its contract: the record is the message, and the parity's first R bytes stand behind it. Assumes nothing.
 use mathlib.Core.Path.{_≡_, sym, ap, _∙_}
 use mathlib.Core.List.{List, _++_, append-assoc}
-use mathlib.Core.Logic.{⊎-elim}
 use Prim.Native.Nat.{ℕ, _+_, _≤_}
 use native.Mathlib.Omega.{arith}
 use lib.ListN.{length, take, length-append}
@@ -13,13 +12,11 @@ use Rattle.field.proofs.ByteLists.{take-padded, padded-length}
 use Rattle.field.proofs.Parity.{parity-length}
 use Rattle.droplet.specs.declared.card.Card.{Card}
 use Rattle.droplet.specs.PoolCard.{strandBytes}
+use Rattle.droplet.proofs.LegalCard.{checks-bounds}
 use Rattle.strand.specs.ReadCheck.{strandWord}
 use borrow.Author.Needs.{needs}
 use Rattle.strand.proofs.writer.fill_word.Statement.{statement}
 use Rattle.strand.proofs.writer.fill_word.Tie as tie
-
-at-most-four : {R : ℕ} → CheckCount R → R ≤ 4
-at-most-four = ⊎-elim (λ e. omega arith) (λ e. omega arith)
 
 module _ (c : Card) (seed : ℕ) (p rest w check more part end : List ℕ) (counts : CheckCount (c .r)) (size : length p ≡ c .l)
     (stored : w ≡ toBigEndian seed ++ (p ++ rest)) (checked : check ≡ padded 4 (parity (c .r) (take (4 + length p) w)))
@@ -38,7 +35,7 @@ module _ (c : Card) (seed : ℕ) (p rest w check more part end : List ℕ) (coun
   filled : take (strandBytes c) (take (4 + length p) w ++ (part ++ end)) ≡ strandWord c seed p
   unfolding message strandBytes strandWord
   filled =
-      let few = at-most-four counts in
+      let few = checks-bounds counts .1 in
       let q = parity (c .r) message in
       let n = parity-length (c .r) message in
       let is : check ≡ padded 4 q = rw front at checked in
