@@ -2,4 +2,3 @@ pub mod PoolCard
 pub mod Droplet
 pub mod Questions
 pub mod Loops
-pub mod Examples

@@ -3,4 +3,3 @@ pub mod Shift
 pub mod Generator
 pub mod CheckBytes
 pub mod Loops
-pub mod Examples

@@ -6,4 +6,3 @@ pub mod CForm
 pub mod Writer
 pub mod RoundTrip
 pub mod Loops
-pub mod Examples
