@@ -1,10 +1,19 @@
-/* The read check of a DNA-storage pool, for C and C++ hosts. Link libstrand.a; it needs nothing but memcpy.
+/* Card reader, writer, read check, shelf and restorer of a DNA-storage pool, for C and C++ hosts.
  *
- * The function never reads or writes outside the buffers it is handed, never fails to return, keeps no state, and may be
- * called from several threads at once on different output buffers.
+ * Link libcapi.a and libstrand.a: fountain_check_read is in libstrand.a, the other four are in libcapi.a. The two have
+ * no name in common, and together need nothing but memcpy and memset.
  *
- * What the caller answers for: each pointer stands for as many bytes as the length after it says; a pointer may be NULL only
- * where its length is 0; `out` overlaps neither `weights` nor `read`. */
+ * Each function returns 0, or the number of the first of its questions that says no. They are asked in the order in which each
+ * function lists them below. A call that returns a number other than 0 has changed no buffer, no list and no answer.
+ *
+ * No function reads or writes outside the buffers that it is handed, fails to return, or keeps state. They may be called from
+ * several threads at once, if no call writes what another one reads or writes.
+ *
+ * What the caller answers for, and nothing checks:
+ *   - each pointer stands for as many elements as the length after it says, aligned as C aligns their type;
+ *   - a pointer may be NULL only where its length is 0, and `answer` is never NULL;
+ *   - a buffer that a function may write (a pointer with no const) overlaps no other buffer of that call. Buffers that it only
+ *     reads may overlap each other. */
 #ifndef FOUNTAIN_H
 #define FOUNTAIN_H
 
@@ -15,7 +24,7 @@
 extern "C" {
 #endif
 
-/* Checks one read under a pool card.
+/* All functions but the card reader take the numbers of a pool card and its weights:
  *
  *   F            file length in bytes, 1 to 8,388,608
  *   L            segment length in bytes, 1 to 64
@@ -23,16 +32,66 @@ extern "C" {
  *   m            longest run of one base allowed, 1 to 20
  *   lo, hi       limits of C and G in thousandths, lo <= hi <= 1000
  *   weights      the degree weights: four bytes each, most significant first (a card has them from its byte 20 on)
- *   read         the letters of the read; the strand length is 4 * (4 + L + R) letters
- *   out          lent for the droplet: 4 + L bytes are written if the read is accepted
+ *   weights_len  how many bytes these are, 4 * D
  *
- * Returns 0 if the read is accepted: out then holds the seed (four bytes, most significant first) and the L payload bytes,
- * and its bytes past these are as they were. Otherwise returns the number of the first question that says no, and out is
- * as it was:
+ * They ask these questions first:
  *
  *    2  F, L or R out of range, or more than 131,072 segments
  *    3  m, lo or hi out of range
  *    4  weights not a multiple of 4 bytes, none, more than 1,024 or than there are segments, or their sum 0 or over 32 bits
+ *
+ * D is the number of weights, K the number of segments (F divided by L, rounded up), n the strand length, 4 * (4 + L + R)
+ * letters. A record is a seed (four bytes, most significant first) and L payload bytes: 4 + L bytes. */
+
+/* Reads a pool card.
+ *
+ *   card, card_len    the bytes of the card
+ *   answer            lent for seven numbers: F, L, R, m, lo, hi and D, in this order
+ *
+ * Returns 0 if the card is accepted, and fills answer; its weights are the 4 * D bytes from card + 20 on. Otherwise:
+ *
+ *    1  not three whole fields of tags 1, 2 and 3 and lengths 6, 5 and a multiple of 4, or something after them
+ *    2, 3, 4  as above */
+uint32_t fountain_read_card(const uint8_t *card, size_t card_len, uint64_t answer[7]);
+
+/* Writes strands of a file.
+ *
+ *   F .. weights_len  as above
+ *   file, file_len    the file, F bytes
+ *   start             the first seed to try, not 0
+ *   wanted            how many strands to make, at most 1,000,000
+ *   budget            how many seeds to try at most
+ *   out, out_len      lent for the strands, at least wanted * (n + 1) bytes: n letters and a newline byte for each
+ *   list, list_len    lent as scratch memory, at least D places
+ *   answer            lent for four numbers: the stop (0 done: made is wanted; 1 spent: tried is budget), made, tried, and the
+ *                     next seed, with which a later call goes on
+ *
+ * Returns 0 and fills answer. The first made * (n + 1) bytes of out then hold the strands, and its bytes past these are as they
+ * were. The first D places of list hold anything, those past D are as they were. Otherwise:
+ *
+ *    2, 3, 4  as above
+ *    5  file_len is not F
+ *    6  start is 0
+ *    7  wanted is over 1,000,000, or out is shorter than wanted * (n + 1) bytes
+ *    8  list has fewer than D places */
+uint32_t fountain_write(uint32_t F, uint8_t L, uint8_t R, uint8_t m, uint16_t lo, uint16_t hi,
+                        const uint8_t *weights, size_t weights_len,
+                        const uint8_t *file, size_t file_len,
+                        uint32_t start, uint32_t wanted, uint32_t budget,
+                        uint8_t *out, size_t out_len,
+                        uint32_t *list, size_t list_len,
+                        uint64_t answer[4]);
+
+/* Checks one read under a pool card.
+ *
+ *   F .. weights_len  as above
+ *   read, read_len    the letters of the read, n of them
+ *   out, out_len      lent for the droplet, at least 4 + L bytes
+ *
+ * Returns 0 if the read is accepted: the first 4 + L bytes of out then hold the seed (four bytes, most significant first) and
+ * the L payload bytes, and its bytes past these are as they were. Otherwise:
+ *
+ *    2, 3, 4  as above
  *    9  the read does not have the strand length
  *   10  a letter that is none of A, C, G, T (N and small letters are none)
  *   11  the check sums are not all 0
@@ -43,6 +102,57 @@ uint32_t fountain_check_read(uint32_t F, uint8_t L, uint8_t R, uint8_t m, uint16
                              const uint8_t *weights, size_t weights_len,
                              const uint8_t *read, size_t read_len,
                              uint8_t *out, size_t out_len);
+
+/* Offers one read to a shelf. An empty shelf is a buffer of any length and bytes with count 0.
+ *
+ *   F .. weights_len  as above
+ *   store, store_len  the shelf: records from its start
+ *   count             how many records it holds
+ *   read, read_len    the letters of the read, n of them
+ *   answer            lent for two numbers: what became of the read (0 accepted: its record was appended; 1 repeat: the shelf
+ *                     has its record already), and the count to hand to the next call
+ *
+ * Returns 0 and fills answer. If the read was accepted, the 4 + L bytes of store from count * (4 + L) on hold its record, and
+ * all others are as they were; if it was a repeat, all are. Otherwise (the next call is handed the same count):
+ *
+ *    2, 3, 4  as above
+ *   14  count * (4 + L) is more than store_len
+ *    9 to 13  as of fountain_check_read
+ *   15  the first record of this seed has another payload
+ *   16  the seed is new, and there is no space for its record */
+uint32_t fountain_store(uint32_t F, uint8_t L, uint8_t R, uint8_t m, uint16_t lo, uint16_t hi,
+                        const uint8_t *weights, size_t weights_len,
+                        uint8_t *store, size_t store_len, size_t count,
+                        const uint8_t *read, size_t read_len,
+                        uint64_t answer[2]);
+
+/* Restores what the records of a shelf give of a file.
+ *
+ *   F .. weights_len  as above
+ *   store, store_len  the shelf, of which nothing is written
+ *   count             how many records it holds
+ *   file, file_len    lent for the segments, at least K * L bytes
+ *   marks, marks_len  lent for the marks, at least K bytes
+ *   list, list_len    lent as scratch memory, at least D places
+ *   answer            lent for three numbers: the segments present (marks that are 1), sweeps, and contradictions (records whose
+ *                     segments are all present but do not give the payload)
+ *
+ * Returns 0 and fills answer. Segment i then stands in the L bytes of file from i * L on if marks[i] is 1; if it is missing,
+ * marks[i] and these bytes are 0. The bytes of file past K * L and of marks past K are as they were. The first D places of list
+ * hold anything, those past D are as they were. Otherwise:
+ *
+ *    2, 3, 4  as above
+ *   14  count * (4 + L) is more than store_len
+ *   17  a record of the shelf has seed 0
+ *   18  file is shorter than K * L bytes, or marks than K
+ *    8  list has fewer than D places */
+uint32_t fountain_restore(uint32_t F, uint8_t L, uint8_t R, uint8_t m, uint16_t lo, uint16_t hi,
+                          const uint8_t *weights, size_t weights_len,
+                          const uint8_t *store, size_t store_len, size_t count,
+                          uint8_t *file, size_t file_len,
+                          uint8_t *marks, size_t marks_len,
+                          uint32_t *list, size_t list_len,
+                          uint64_t answer[3]);
 
 #ifdef __cplusplus
 }

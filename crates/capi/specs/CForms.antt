@@ -1,0 +1,75 @@
+-- The C forms of the card reader, the writer, shelving and restoring: for each the number returned and the lent answer, by the
+-- cases of what the call itself answers, and with it the buffers. A refusal leaves the answer as it was. Assumes nothing.
+use mathlib.Core.Path.{_≡_}
+use mathlib.Core.Bool.{false, cond}
+use mathlib.Core.List.{List, [], _∷_}
+use Prim.Native.Nat.{ℕ}
+use lib.Dec.{eqb}
+use lib.ListN.{length, drop}
+use Rattle.droplet.specs.declared.card.Card.{Card}
+use Rattle.droplet.specs.PoolCard.{weightCount}
+use Rattle.droplet.specs.Questions.{CardRead}
+use Rattle.strand.specs.declared.writer.Stop.{Stop}
+use Rattle.strand.specs.declared.writer.Stop.the-variants.{Done, Spent}
+use Rattle.strand.specs.declared.writer.WriteAnswer.{WriteAnswer}
+use Rattle.strand.specs.declared.writer.WriteAnswer.the-variants as writing
+use Rattle.strand.specs.Writer.{writerRefusal, writerRun, runAnswer, WriterPromise}
+use Rattle.decoder.specs.Shelf.{Shelved, shelving, keptAnswer, keptBuffer}
+use Rattle.decoder.specs.Restorer.{Restored, restore, restoreRefusal, restoringAnswer, restoringState}
+
+-- the number returned, and the lent answer after it
+pub data Returned : Type 0 where
+  returned : ℕ → List ℕ → Returned
+
+-- the card reader: F, L, R, m, lo, hi and D
+unfoldable pub cardReturned : List ℕ → CardRead → Returned
+cardReturned answer (CardRead.accepted c d) = returned 0 (c .f ∷ (c .l ∷ (c .r ∷ (c .m ∷ (c .lo ∷ (c .hi ∷ (d ∷ [])))))))
+cardReturned answer (CardRead.refused n) = returned n answer
+
+-- how the writer stopped: 0 as done, 1 as spent
+abbrev pub stopNumber : Stop → ℕ
+stopNumber Done = 0
+stopNumber Spent = 1
+
+-- the writer: the stop, made, tried and the next seed
+unfoldable pub writeReturned : List ℕ → WriteAnswer → Returned
+writeReturned answer (writing.Written run) = returned 0 (stopNumber (run .stop) ∷ (run .made ∷ (run .tried ∷ (run .next ∷ []))))
+writeReturned answer (writing.Refused n) = returned n answer
+
+-- what the writer answers, in the words of its promise
+abbrev pub writerAnswer : Card → List ℕ → List ℕ → ℕ → ℕ → ℕ → ℕ → ℕ → WriteAnswer
+writerAnswer c weights file start wanted budget buffer numbers =
+    let no = writerRefusal c weights file start wanted buffer numbers in
+    cond (eqb no 0) (runAnswer (writerRun c weights file start wanted budget)) (writing.Refused no)
+
+-- the writer's C form: number and answer, and the writer's promise of that answer, which has buffer and number list at exit
+pub record WriteForm (c : Card) (weights file : List ℕ) (start wanted budget : ℕ) (out list answer : List ℕ) (n : ℕ)
+    (out′ list′ answer′ : List ℕ) : Type 0 where
+  pub returns : returned n answer′ ≡ writeReturned answer (writerAnswer c weights file start wanted budget (length out) (length list))
+  pub leaves : WriterPromise c weights file start wanted budget out list
+      (writerAnswer c weights file start wanted budget (length out) (length list)) out′ list′
+
+-- shelving: 0 for accepted, 1 for a repeat, and the count after it
+unfoldable pub storeReturned : List ℕ → Shelved → Returned
+storeReturned answer (Shelved.accepted count) = returned 0 (0 ∷ (count ∷ []))
+storeReturned answer (Shelved.repeat count) = returned 0 (1 ∷ (count ∷ []))
+storeReturned answer (Shelved.refusal n) = returned n answer
+
+-- shelving's C form: number and answer, and the shelf at exit
+pub record StoreForm (c : Card) (weights buffer : List ℕ) (count : ℕ) (read answer : List ℕ) (n : ℕ) (buffer′ answer′ : List ℕ) : Type 0 where
+  pub returns : returned n answer′ ≡ storeReturned answer (keptAnswer (shelving c weights buffer count read))
+  pub leaves : buffer′ ≡ keptBuffer (shelving c weights buffer count read)
+
+-- restoring: present, sweeps and contradictions
+unfoldable pub restoreReturned : List ℕ → Restored → Returned
+restoreReturned answer (Restored.restored present sweeps contradictions) = returned 0 (present ∷ (sweeps ∷ (contradictions ∷ [])))
+restoreReturned answer (Restored.refusal n) = returned n answer
+
+-- restoring's C form: number and answer, file and marks at exit, and the number list, free in its first D places alone
+pub record RestoreForm (c : Card) (weights buffer : List ℕ) (count : ℕ) (file marks list answer : List ℕ) (n : ℕ)
+    (file′ marks′ list′ answer′ : List ℕ) : Type 0 where
+  pub returns : returned n answer′ ≡ restoreReturned answer (restoringAnswer (restore c weights buffer count file marks (length list)))
+  pub fills : file′ ≡ restoringState (restore c weights buffer count file marks (length list)) .file
+  pub sets : marks′ ≡ restoringState (restore c weights buffer count file marks (length list)) .marks
+  pub keeps : drop (weightCount weights) list′ ≡ drop (weightCount weights) list
+  pub untouched : eqb (restoreRefusal c weights buffer count (length file) (length marks) (length list)) 0 ≡ false → list′ ≡ list

@@ -1,0 +1,152 @@
+ghost use mathlib.Core.Path.{_≡_};
+ghost use Rattle.droplet.specs.Questions.{cardReading};
+ghost use Rattle.capi.specs.CForms.{cardReturned, stopNumber, WriteForm, StoreForm, RestoreForm};
+ghost use Rattle.capi.specs.CForms.Returned.{returned};
+use decoder::restorer;
+use decoder::restorer::RestoreAnswer;
+use decoder::shelf;
+use decoder::shelf::StoreAnswer;
+use droplet::card;
+use droplet::card::Card;
+use droplet::card::CardAnswer;
+use strand::writer;
+use strand::writer::Stop;
+use strand::writer::WriteAnswer;
+
+// Each form calls the public function of its layer and turns the answer into numbers. They are written last, and only where
+// nothing was refused, so that a refusal leaves what the host lent.
+
+// The card reader: F, L, R, m, lo, hi and D.
+#[no_mangle]
+pub extern "C" fn fountain_read_card(card: &[u8], answer: &mut [u64; 7]) -> u32
+    ensures { λ n. ⌜ returned n (now (answer .exit)) ≡ cardReturned (now (answer .entry)) (cardReading (now (card .entry))) ⌝ }
+{
+    match card::read_card(card) {
+        CardAnswer::Refused(n) => n as u32,
+        CardAnswer::Accepted(c, d) => {
+            *answer = [
+                c.f as u64,
+                c.l as u64,
+                c.r as u64,
+                c.m as u64,
+                c.lo as u64,
+                c.hi as u64,
+                d as u64,
+            ];
+            0
+        }
+    }
+}
+
+// How the writer stopped, as a number.
+fn stop_number(stop: Stop) -> u64
+    ensures { λ n. ⌜ n ≡ stopNumber stop ⌝ }
+{
+    match stop {
+        Stop::Done => 0,
+        Stop::Spent => 1,
+    }
+}
+
+// The writer: the stop, made, tried and the next seed.
+#[no_mangle]
+pub extern "C" fn fountain_write(
+    f: u32,
+    l: u8,
+    r: u8,
+    m: u8,
+    lo: u16,
+    hi: u16,
+    weights: &[u8],
+    file: &[u8],
+    start: u32,
+    wanted: u32,
+    budget: u32,
+    out: &mut [u8],
+    list: &mut [u32],
+    answer: &mut [u64; 4],
+) -> u32
+    ensures { λ n. ⌜ WriteForm (record { f = f; l = l; r = r; m = m; lo = lo; hi = hi }) (now (weights .entry)) (now (file .entry)) start wanted budget
+        (now (out .entry)) (now (list .entry)) (now (answer .entry)) n (now (out .exit)) (now (list .exit)) (now (answer .exit)) ⌝ }
+{
+    let card = Card { f, l, r, m, lo, hi };
+    match writer::write_strands(card, weights, file, start, wanted, budget, out, list) {
+        WriteAnswer::Refused(n) => n as u32,
+        WriteAnswer::Written(run) => {
+            let stop = run.stop;
+            *answer = [
+                stop_number(stop),
+                run.made as u64,
+                run.tried as u64,
+                run.next as u64,
+            ];
+            0
+        }
+    }
+}
+
+// Shelving: what became of the read, and the count of records after it.
+#[no_mangle]
+pub extern "C" fn fountain_store(
+    f: u32,
+    l: u8,
+    r: u8,
+    m: u8,
+    lo: u16,
+    hi: u16,
+    weights: &[u8],
+    store: &mut [u8],
+    count: usize,
+    read: &[u8],
+    answer: &mut [u64; 2],
+) -> u32
+    ensures { λ n. ⌜ StoreForm (record { f = f; l = l; r = r; m = m; lo = lo; hi = hi }) (now (weights .entry)) (now (store .entry)) count (now (read .entry))
+        (now (answer .entry)) n (now (store .exit)) (now (answer .exit)) ⌝ }
+{
+    match shelf::store_read(Card { f, l, r, m, lo, hi }, weights, store, count, read) {
+        StoreAnswer::Refused(n) => n as u32,
+        StoreAnswer::Accepted(after) => {
+            *answer = [0, after as u64];
+            0
+        }
+        StoreAnswer::Repeat(after) => {
+            *answer = [1, after as u64];
+            0
+        }
+    }
+}
+
+// Restoring: segments present, sweeps and contradictions.
+#[no_mangle]
+pub extern "C" fn fountain_restore(
+    f: u32,
+    l: u8,
+    r: u8,
+    m: u8,
+    lo: u16,
+    hi: u16,
+    weights: &[u8],
+    store: &[u8],
+    count: usize,
+    file: &mut [u8],
+    marks: &mut [u8],
+    list: &mut [u32],
+    answer: &mut [u64; 3],
+) -> u32
+    ensures { λ n. ⌜ RestoreForm (record { f = f; l = l; r = r; m = m; lo = lo; hi = hi }) (now (weights .entry)) (now (store .entry)) count
+        (now (file .entry)) (now (marks .entry)) (now (list .entry)) (now (answer .entry)) n
+        (now (file .exit)) (now (marks .exit)) (now (list .exit)) (now (answer .exit)) ⌝ }
+{
+    let card = Card { f, l, r, m, lo, hi };
+    match restorer::restore(card, weights, store, count, file, marks, list) {
+        RestoreAnswer::Refused(n) => n as u32,
+        RestoreAnswer::Restored(sheet) => {
+            *answer = [
+                sheet.present as u64,
+                sheet.passes as u64,
+                sheet.contradictions as u64,
+            ];
+            0
+        }
+    }
+}
