@@ -1,0 +1,4 @@
+pub mod Counting
+pub mod LongLines
+pub mod InputLines
+pub mod LineInHand

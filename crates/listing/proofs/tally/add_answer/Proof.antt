@@ -1,0 +1,67 @@
+-- `add_answer` meets its contract, answer by answer. Assumes nothing.
+use mathlib.Core.Path.{refl, _∙_}
+use borrow.Author.Needs.{needs}
+use Rattle.listing.specs.Listing.{afterAnswer}
+use Rattle.listing.proofs.Counting.{one-more}
+use Rattle.listing.proofs.tally.add_answer.Statement.{statement}
+use Rattle.listing.proofs.tally.add_answer.Tie as tie
+
+returns : tie.Need-returns
+unfolding afterAnswer
+returns c =
+    let read = c .before .before .before .before .one-more .ensures in
+    record {
+      numbers = λ s shelf h. rw (c .before .before .a .given .1) (record {
+        reads = read ∙ one-more _ _ (h .reads);
+        accepted = c .one-more2 .ensures ∙ one-more _ _ (h .accepted);
+        repeated = h .repeated;
+        refused = h .refused;
+        count = refl;
+      });
+      length = refl;
+    }
+
+returns-2 : tie.Need-returns-2
+unfolding afterAnswer
+returns-2 c =
+    let read = c .before .before .before .before .one-more .ensures in
+    record {
+      numbers = λ s shelf h. rw (c .before .before .a2 .given .1) (record {
+        reads = read ∙ one-more _ _ (h .reads);
+        accepted = h .accepted;
+        repeated = c .one-more3 .ensures ∙ one-more _ _ (h .repeated);
+        refused = h .refused;
+        count = refl;
+      });
+      length = refl;
+    }
+
+returns-3 : tie.Need-returns-3
+unfolding afterAnswer
+returns-3 c =
+    let read = c .before .before .before .one-more .ensures in
+    record {
+      numbers = λ s shelf h. rw (c .before .enum-told .given .1) (record {
+        reads = read ∙ one-more _ _ (h .reads);
+        accepted = h .accepted;
+        repeated = h .repeated;
+        refused = c .one-more4 .ensures ∙ one-more _ _ (h .refused);
+        count = h .count;
+      });
+      length = refl;
+    }
+
+pub add-answer-spec : {M : Type 1} → statement M
+add-answer-spec =
+    tie.close
+    (tie.spec
+    (λ c κs. search needs)
+    (λ c. search needs)
+    (λ c κs. search needs)
+    (λ c. search needs)
+    (λ c κs. search needs)
+    (λ c. search needs)
+    (λ c κs. search needs)
+    returns
+    returns-2
+    returns-3)

@@ -1,0 +1,52 @@
+-- Document 01, end of "Bench examples": what lines are, and what the five lines under card P come to, as rows under one
+-- proposition. Assumes nothing.
+use mathlib.Core.Path.{_≡_, refl}
+use mathlib.Core.List.{List, [], _∷_, _++_}
+use Prim.Native.Nat.{ℕ}
+use lib.ListN.{replicate}
+use Rattle.field.specs.Bytes.{All, fromBigEndian, toBigEndian}
+use Rattle.field.specs.Shift.{shiftUp}
+use Rattle.field.specs.CheckBytes.{double, timesPower, horner, syndromes}
+use Rattle.droplet.specs.PoolCard.{numberAt, weightAt, firstWeights, segmentCount, strandBytes}
+use Rattle.droplet.specs.Questions.{sizesRight, limitsRight, weightsRight, cardRefusal}
+use Rattle.strand.specs.Letters.{letterBits, allLetters, byteBases, wordBases, lettersByte, lettersWord}
+use Rattle.strand.specs.Screen.{longestFrom, longestRun, gcCount, withinLimits, screenPasses}
+use Rattle.strand.specs.ReadCheck.{sumsZero, wordReading, lettersReading, readCheck}
+use Rattle.decoder.specs.Shelf.{recordFrom, records, sameBytes, findSeed, appended, compared, shelvedReading, shelving}
+use Rattle.decoder.specs.BenchExamples.{cardP, weights, letters1, letters2, letters3}
+use Rattle.listing.specs.Listing.{Listed, lastLine, linesFrom, linesOf, afterAnswer, afterLine, listing}
+
+pub data Row : Type 0 where
+  cuts : List ℕ → List (List ℕ) → Row
+  comes : List ℕ → List ℕ → Row
+
+-- reads, accepted, repeated and refused, and the count of records
+abbrev pub numbers : Listed → List ℕ
+numbers s = s .reads ∷ s .accepted ∷ s .repeated ∷ s .refused ∷ s .count ∷ []
+
+abbrev pub Holds : Row → Type 0
+Holds (cuts input lines) = linesOf input ≡ lines
+Holds (comes input ns) = numbers (listing (cardP 15 214) (weights 2 1) (replicate 20 9) input) ≡ ns
+
+-- the first four lines, and AAAN
+abbrev pub four : List ℕ
+four = letters2 ++ (10 ∷ (letters1 ++ (10 ∷ (letters3 ++ (10 ∷ (letters1 ++ (10 ∷ [])))))))
+
+abbrev pub last : List ℕ
+last = 65 ∷ 65 ∷ 65 ∷ 78 ∷ []
+
+abbrev pub rows : List Row
+rows =
+    cuts [] []
+    ∷ cuts (10 ∷ []) ([] ∷ [])
+    ∷ cuts (65 ∷ 10 ∷ 10 ∷ 67 ∷ []) ((65 ∷ []) ∷ [] ∷ (67 ∷ []) ∷ [])
+    ∷ cuts (65 ∷ 13 ∷ 10 ∷ []) ((65 ∷ 13 ∷ []) ∷ [])
+    ∷ comes (four ++ (last ++ (10 ∷ []))) (5 ∷ 3 ∷ 1 ∷ 1 ∷ 3 ∷ [])
+    ∷ comes (four ++ last) (5 ∷ 3 ∷ 1 ∷ 1 ∷ 3 ∷ [])
+    ∷ comes (10 ∷ []) (1 ∷ 0 ∷ 0 ∷ 1 ∷ 0 ∷ [])
+    ∷ comes [] (0 ∷ 0 ∷ 0 ∷ 0 ∷ 0 ∷ [])
+    ∷ []
+
+pub examples : All Holds rows
+unfolding lastLine linesFrom afterAnswer afterLine listing toBigEndian fromBigEndian timesPower double shiftUp horner syndromes cardRefusal sizesRight limitsRight weightsRight segmentCount strandBytes firstWeights weightAt numberAt letterBits allLetters byteBases wordBases lettersByte lettersWord longestFrom longestRun gcCount withinLimits screenPasses sumsZero wordReading lettersReading readCheck recordFrom records sameBytes findSeed appended compared shelvedReading shelving
+examples = (refl, (refl, (refl, (refl, (refl, (refl, (refl, (refl, tt))))))))

@@ -1,0 +1,131 @@
+// The listing program of document 01: reads the pool card from pool.card and reads from standard input, one a line, and prints
+// how they were answered and what a restore from them finds.
+mod input;
+mod tally;
+
+ghost use Prim.Native.Nat.{_≤_};
+ghost use lib.ListN.{length};
+ghost use Rattle.io.specs.Counts.{Counts};
+use decoder::restorer::RestoreAnswer;
+use decoder::restorer::Sheet;
+use decoder::restorer::restore;
+use droplet::card::Card;
+use droplet::card::CardAnswer;
+use droplet::card::read_card;
+use droplet::card::segment_count;
+use input::list_reads;
+use libc::STDOUT_FILENO;
+use tally::Tally;
+
+// How many bytes of pool.card are at the start of `bytes`: none where it is missing, cannot be read, or has more than 8,192.
+fn load_card(bytes: &mut [u8]) -> usize
+    ensures { λ r. ⌜ Counts r (now (bytes .exit)) ⌝ }
+{
+    let fd = os::open_read(b"pool.card");
+    if fd < 0 {
+        return 0;
+    }
+    let n = io::read_full(fd, bytes);
+    libc::close(fd);
+    if 8192 < n {
+        return 0;
+    }
+    n
+}
+
+fn print(text: &[u8], n: u64) {
+    io::write_all(STDOUT_FILENO, text);
+    io::print_decimal(STDOUT_FILENO, n);
+}
+
+fn print_tally(t: Tally) {
+    print(b"reads ", t.reads);
+    print(b" accepted ", t.accepted);
+    print(b" repeated ", t.repeated);
+    print(b" refused ", t.refused);
+    io::write_all(STDOUT_FILENO, b"\n");
+}
+
+fn print_sheet(segments: u32, sheet: Sheet) {
+    print(b"segments ", segments as u64);
+    print(b" present ", sheet.present as u64);
+    print(b" sweeps ", sheet.passes as u64);
+    print(b" contradictions ", sheet.contradictions as u64);
+    io::write_all(STDOUT_FILENO, b"\n");
+}
+
+fn print_refusal(text: &[u8], n: u8) {
+    print(text, n as u64);
+    io::write_all(STDOUT_FILENO, b"\n");
+}
+
+// Lists the reads of a pool, and restores from those on the shelf.
+fn list_pool(
+    card: Card,
+    segments: u32,
+    weights: &[u8],
+    chunk: &mut [u8],
+    line: &mut [u8],
+    shelf: &mut [u8],
+    file: &mut [u8],
+    marks: &mut [u8],
+    list: &mut [u32],
+)
+    requires { ⌜ 289 ≤ length (now line) ⌝ }
+{
+    let t = list_reads(card, weights, chunk, line, shelf);
+    match restore(card, weights, shelf, t.count, file, marks, list) {
+        RestoreAnswer::Restored(sheet) => {
+            print_tally(t);
+            print_sheet(segments, sheet);
+        }
+        // No restore is refused here: the card is accepted, the count is that of this shelf, no legal read has seed 0, and the
+        // lent buffers are large enough for every card that is not too large.
+        RestoreAnswer::Refused(n) => print_refusal(b"restore ", n),
+    }
+}
+
+// The whole run, over the card's bytes and the lent buffers.
+fn run(
+    bytes: &[u8],
+    chunk: &mut [u8],
+    line: &mut [u8],
+    shelf: &mut [u8],
+    file: &mut [u8],
+    marks: &mut [u8],
+    list: &mut [u32],
+)
+    requires { ⌜ 289 ≤ length (now line) ⌝ }
+{
+    match read_card(bytes) {
+        CardAnswer::Refused(n) => print_refusal(b"card ", n),
+        CardAnswer::Accepted(card, _) => {
+            let k = segment_count(card);
+            if k * (card.l as u32) <= 32768 {
+                list_pool(card, k, &bytes[20..], chunk, line, shelf, file, marks, list);
+            } else {
+                io::write_all(STDOUT_FILENO, b"card too large\n");
+            }
+        }
+    }
+}
+
+fn main() {
+    let mut bytes = [0u8; 8193];
+    let mut chunk = io::large_buffer();
+    let mut line = [0u8; 512];
+    let mut shelf = [0u8; 65536];
+    let mut file = [0u8; 32768];
+    let mut marks = [0u8; 32768];
+    let mut list = [0u32; 1024];
+    let n = load_card(&mut bytes);
+    run(
+        &bytes[..n],
+        &mut chunk,
+        &mut line,
+        &mut shelf,
+        &mut file,
+        &mut marks,
+        &mut list,
+    );
+}

@@ -1,0 +1,458 @@
+//! The built listing program, `target/bin/listing`, run in folders of its own. Its whole output and its exit status are held to
+//! document 01's text, to numbers that follow from how the input was made, and to `second::listing`.
+
+use second::check_bytes_letters_screen::{letters_of_bytes, strand_bytes};
+use std::fs::{self, File};
+use std::io::{ErrorKind, Write};
+use std::path::{Path, PathBuf};
+use std::process::{Child, Command, Stdio};
+use std::thread::sleep;
+use std::time::Duration;
+
+/// Card P of document 01.
+const P: [u8; 28] = [
+    0x01, 0x00, 0x06, 0x00, 0x00, 0x00, 0x04, 0x01, 0x02, //
+    0x02, 0x00, 0x05, 0x0F, 0x00, 0xD6, 0x03, 0xE8, //
+    0x03, 0x00, 0x08, 0x00, 0x00, 0x00, 0x01, 0x00, 0x00, 0x00, 0x01,
+];
+
+const SEED_2: &str = "AAAAAAAAAAAAAAAGCGGCGTCCTCTG";
+const SEED_1: &str = "AAAAAAAAAAAAAAACTGCAATCGTCAT";
+const SEED_3: &str = "AAAAAAAAAAAAAAATAGCTCGAACACA";
+
+const FIVE_LINES: &str = "AAAAAAAAAAAAAAAGCGGCGTCCTCTG
+AAAAAAAAAAAAAAACTGCAATCGTCAT
+AAAAAAAAAAAAAAATAGCTCGAACACA
+AAAAAAAAAAAAAAACTGCAATCGTCAT
+AAAN
+";
+
+const TWO_LINES: &str = "reads 5 accepted 3 repeated 1 refused 1
+segments 4 present 3 sweeps 3 contradictions 0
+";
+
+/// A folder of this test's own, with its pool.card.
+fn folder(name: &str, card: Option<&[u8]>) -> PathBuf {
+    let place = Path::new(env!("CARGO_TARGET_TMPDIR"))
+        .join("listing")
+        .join(name);
+    let _ = fs::remove_dir_all(&place);
+    fs::create_dir_all(&place).unwrap();
+    if let Some(bytes) = card {
+        fs::write(place.join("pool.card"), bytes).unwrap();
+    }
+    place
+}
+
+fn started(place: &Path, input: Stdio) -> Child {
+    let program = Path::new(env!("CARGO_MANIFEST_DIR")).join("../target/bin/listing");
+    let program = program
+        .canonicalize()
+        .unwrap_or_else(|e| panic!("{}: {e}: run `rt check listing`", program.display()));
+    Command::new(program)
+        .current_dir(place)
+        .stdin(input)
+        .stdout(Stdio::piped())
+        .stderr(Stdio::piped())
+        .spawn()
+        .unwrap()
+}
+
+fn printed(child: Child) -> String {
+    let output = child.wait_with_output().unwrap();
+    assert_eq!(output.status.code(), Some(0));
+    assert_eq!(String::from_utf8_lossy(&output.stderr), "");
+    String::from_utf8(output.stdout).unwrap()
+}
+
+/// What the program prints for input through a pipe, piece by piece.
+fn piped<'a>(
+    name: &str,
+    card: Option<&[u8]>,
+    pieces: impl IntoIterator<Item = &'a [u8]>,
+    pause: Duration,
+) -> String {
+    let mut child = started(&folder(name, card), Stdio::piped());
+    let mut pipe = child.stdin.take().unwrap();
+    for piece in pieces {
+        match pipe.write_all(piece) {
+            // A program that refused its card reads nothing.
+            Err(e) if e.kind() == ErrorKind::BrokenPipe => break,
+            written => written.unwrap(),
+        }
+        pipe.flush().unwrap();
+        sleep(pause);
+    }
+    drop(pipe);
+    printed(child)
+}
+
+/// What it prints for input from a file.
+fn from_file(name: &str, card: Option<&[u8]>, input: &[u8]) -> String {
+    let place = folder(name, card);
+    let path = place.join("reads");
+    fs::write(&path, input).unwrap();
+    printed(started(&place, File::open(path).unwrap().into()))
+}
+
+/// What it prints: from a file and through a pipe alike, and as the second implementation says.
+fn run(name: &str, card: Option<&[u8]>, input: &[u8]) -> String {
+    let text = from_file(name, card, input);
+    let pipe = piped(&format!("{name}-pipe"), card, [input], Duration::ZERO);
+    assert_eq!(pipe, text);
+    assert_eq!(second::listing(card, input), text);
+    text
+}
+
+fn reads(reads: usize, accepted: usize, repeated: usize, refused: usize) -> String {
+    format!("reads {reads} accepted {accepted} repeated {repeated} refused {refused}\n")
+}
+
+/// A card with R = 4, m = 20 and no GC limits, and D weights of 1.
+fn card_with(f: u32, l: u8, d: usize) -> Vec<u8> {
+    let mut card = vec![1, 0, 6];
+    card.extend_from_slice(&f.to_be_bytes());
+    card.extend_from_slice(&[l, 4]);
+    card.extend_from_slice(&[2, 0, 5, 20, 0, 0, 3, 0xE8]);
+    card.push(3);
+    card.extend_from_slice(&((4 * d) as u16).to_be_bytes());
+    for _ in 0..d {
+        card.extend_from_slice(&[0, 0, 0, 1]);
+    }
+    card
+}
+
+/// A legal read under such a card, if no run is too long.
+fn legal(seed: u32, payload: &[u8]) -> Vec<u8> {
+    letters_of_bytes(&strand_bytes(seed, payload, 4))
+}
+
+#[test]
+fn five_lines() {
+    assert_eq!(run("five", Some(&P), FIVE_LINES.as_bytes()), TWO_LINES);
+}
+
+#[test]
+fn last_line_without_newline_counts() {
+    let input = FIVE_LINES.trim_end().as_bytes();
+    assert_eq!(run("unended", Some(&P), input), TWO_LINES);
+}
+
+#[test]
+fn no_input() {
+    let sheet = "segments 4 present 0 sweeps 1 contradictions 0\n";
+    assert_eq!(run("none", Some(&P), b""), reads(0, 0, 0, 0) + sheet);
+}
+
+#[test]
+fn empty_lines_are_reads() {
+    let sheet = "segments 4 present 0 sweeps 1 contradictions 0\n";
+    assert_eq!(run("empty-1", Some(&P), b"\n"), reads(1, 0, 0, 1) + sheet);
+    assert_eq!(run("empty-2", Some(&P), b"\n\n"), reads(2, 0, 0, 2) + sheet);
+    let input = format!("\n{SEED_1}\n\n{SEED_1}");
+    let sheet = "segments 4 present 1 sweeps 2 contradictions 0\n";
+    assert_eq!(
+        run("empty-3", Some(&P), input.as_bytes()),
+        reads(4, 1, 1, 2) + sheet
+    );
+}
+
+#[test]
+fn carriage_returns_are_bytes_of_the_read() {
+    let input = FIVE_LINES.replace('\n', "\r\n");
+    let sheet = "segments 4 present 0 sweeps 1 contradictions 0\n";
+    assert_eq!(
+        run("cr", Some(&P), input.as_bytes()),
+        reads(5, 0, 0, 5) + sheet
+    );
+    let sheet = "segments 4 present 1 sweeps 2 contradictions 0\n";
+    let input = format!("\r\n{SEED_1}\n\r");
+    assert_eq!(
+        run("cr-alone", Some(&P), input.as_bytes()),
+        reads(3, 1, 0, 2) + sheet
+    );
+}
+
+#[test]
+fn any_bytes() {
+    let mut input = b"\0\nAA\0A\n\xFF\xFE\x80\n\x0B\x0C \t\n".to_vec();
+    input.extend_from_slice(SEED_1.as_bytes());
+    input.extend_from_slice(b"\0\n");
+    input.extend_from_slice(&vec![0; 28]);
+    input.push(b'\n');
+    input.extend((0..=255).filter(|&b| b != b'\n'));
+    input.push(b'\n');
+    input.extend_from_slice(SEED_3.as_bytes());
+    let sheet = "segments 4 present 1 sweeps 2 contradictions 0\n";
+    assert_eq!(run("bytes", Some(&P), &input), reads(8, 1, 0, 7) + sheet);
+}
+
+#[test]
+fn missing_card() {
+    assert_eq!(run("missing", None, FIVE_LINES.as_bytes()), "card 1\n");
+    assert_eq!(run("hollow", Some(b""), FIVE_LINES.as_bytes()), "card 1\n");
+    // A folder of that name is no card either.
+    let place = folder("folder", None);
+    fs::create_dir(place.join("pool.card")).unwrap();
+    assert_eq!(printed(started(&place, Stdio::null())), "card 1\n");
+}
+
+#[test]
+fn refused_cards() {
+    let input = FIVE_LINES.as_bytes();
+    let changed = |at: usize, to: u8| {
+        let mut card = P;
+        card[at] = to;
+        card
+    };
+    assert_eq!(run("card-1", Some(&changed(0, 2)), input), "card 1\n");
+    assert_eq!(run("card-1-cut", Some(&P[..27]), input), "card 1\n");
+    assert_eq!(run("card-2", Some(&changed(8, 3)), input), "card 2\n");
+    assert_eq!(run("card-3", Some(&changed(12, 0)), input), "card 3\n");
+    let mut card = P;
+    (card[23], card[27]) = (0, 0);
+    assert_eq!(run("card-4", Some(&card), input), "card 4\n");
+    // No input at all is read after a refusal.
+    assert_eq!(run("card-2-alone", Some(&changed(7, 0)), b""), "card 2\n");
+}
+
+#[test]
+fn length_of_the_card() {
+    // 8,192 bytes are read whole: D is too large.
+    let mut card = card_with(32_768, 1, 2043);
+    assert_eq!(card.len(), 8_192);
+    assert_eq!(run("8192", Some(&card), b""), "card 4\n");
+    // A byte more, and the card counts as empty.
+    card.push(0);
+    assert_eq!(run("8193", Some(&card), b""), "card 1\n");
+    let card = card_with(32_768, 1, 2044);
+    assert_eq!(run("8196", Some(&card), b""), "card 1\n");
+    let card = vec![1; 1_000_000];
+    assert_eq!(run("million", Some(&card), b""), "card 1\n");
+    // The longest card that is accepted.
+    let card = card_with(32_768, 1, 1024);
+    assert_eq!(card.len(), 4_116);
+    let sheet = "segments 32768 present 0 sweeps 1 contradictions 0\n";
+    assert_eq!(run("4116", Some(&card), b""), reads(0, 0, 0, 0) + sheet);
+}
+
+#[test]
+fn card_too_large() {
+    for (name, f, l, text) in [
+        (
+            "taken-1",
+            32_768,
+            1,
+            "segments 32768 present 0 sweeps 1 contradictions 0\n",
+        ),
+        (
+            "taken-64",
+            32_768,
+            64,
+            "segments 512 present 0 sweeps 1 contradictions 0\n",
+        ),
+        // K·L counts, not F.
+        (
+            "taken-63",
+            32_760,
+            63,
+            "segments 520 present 0 sweeps 1 contradictions 0\n",
+        ),
+    ] {
+        assert_eq!(
+            run(name, Some(&card_with(f, l, 1)), b""),
+            reads(0, 0, 0, 0) + text
+        );
+    }
+    for (name, f, l) in [
+        ("large-1", 32_769, 1),
+        ("large-64", 32_769, 64),
+        ("large-63", 32_761, 63),
+        ("largest", 8_388_608, 64),
+    ] {
+        assert_eq!(
+            run(name, Some(&card_with(f, l, 1)), b"A\n"),
+            "card too large\n"
+        );
+    }
+    // A refusal comes first.
+    assert_eq!(
+        run("refused", Some(&card_with(8_388_608, 1, 1)), b""),
+        "card 2\n"
+    );
+}
+
+#[test]
+fn full_shelf() {
+    // 65,536 bytes hold 963 records of 68 bytes; the reads past them are refused, repeats of those on the shelf are not.
+    let card = card_with(64, 64, 1);
+    let mut input = Vec::new();
+    for seed in (1..=1_000u32).chain(1..=10) {
+        input.extend_from_slice(&legal(seed.wrapping_mul(0x9E37_79B1), &[0x1B; 64]));
+        input.push(b'\n');
+    }
+    let sheet = "segments 1 present 1 sweeps 2 contradictions 0\n";
+    assert_eq!(
+        run("full", Some(&card), &input),
+        reads(1_010, 963, 10, 37) + sheet
+    );
+}
+
+#[test]
+fn contradictory_reads() {
+    // Another payload for a seed on the shelf is refused.
+    let card = card_with(2, 1, 1);
+    let lines: Vec<Vec<u8>> = [(7, 0x1B), (7, 0x1B), (7, 0x2B), (7, 0x1B)]
+        .iter()
+        .map(|&(seed, byte)| legal(0x9E37_79B1u32.wrapping_mul(seed), &[byte]))
+        .collect();
+    let sheet = "segments 2 present 1 sweeps 2 contradictions 0\n";
+    assert_eq!(
+        run("fifteen", Some(&card), &lines.join(&b'\n')),
+        reads(4, 1, 2, 1) + sheet
+    );
+    // Two seeds of one segment that contradict each other both stay.
+    let card = card_with(1, 1, 1);
+    let lines = [legal(0x1234_5678, &[0x1B]), legal(0x8765_4321, &[0x2B])];
+    let sheet = "segments 1 present 1 sweeps 2 contradictions 1\n";
+    assert_eq!(
+        run("contradiction", Some(&card), &lines.join(&b'\n')),
+        reads(2, 2, 0, 0) + sheet
+    );
+}
+
+#[test]
+fn long_lines() {
+    // The longest strand has 288 letters. Longer lines are one read each, whatever stands in them.
+    let card = card_with(64, 64, 1);
+    let strand = legal(0x9E37_79B1, &[0x1B; 64]);
+    assert_eq!(strand.len(), 288);
+    let sheet = "segments 1 present 1 sweeps 2 contradictions 0\n";
+    let mut input = strand.clone();
+    let mut lines = 1;
+    for length in [
+        287, 289, 511, 512, 513, 576, 800, 801, 1_024, 4_096, 65_535, 65_536, 65_537,
+    ] {
+        // a strand at the front of the line, and one at its end
+        let mut line = vec![b'A'; length];
+        line[..length.min(288)].copy_from_slice(&strand[..length.min(288)]);
+        let end = length.saturating_sub(288);
+        line[end..].copy_from_slice(&strand[288 - (length - end)..]);
+        input.push(b'\n');
+        input.extend_from_slice(&line);
+        lines += 1;
+    }
+    assert_eq!(
+        run("long", Some(&card), &input),
+        reads(lines, 1, 0, lines - 1) + sheet
+    );
+    input.push(b'\n');
+    input.extend_from_slice(&strand);
+    assert_eq!(
+        run("long-repeat", Some(&card), &input),
+        reads(lines + 1, 1, 1, lines - 1) + sheet
+    );
+}
+
+#[test]
+fn a_line_of_a_million_bytes() {
+    let sheet = "segments 4 present 1 sweeps 2 contradictions 0\n";
+    let mut input = vec![b'A'; 1 << 20];
+    input.push(b'\n');
+    input.extend_from_slice(SEED_1.as_bytes());
+    assert_eq!(
+        run("million-first", Some(&P), &input),
+        reads(2, 1, 0, 1) + sheet
+    );
+    input.push(b'\n');
+    input.extend_from_slice(&vec![b'\r'; 1 << 20]);
+    assert_eq!(
+        run("million-last", Some(&P), &input),
+        reads(3, 1, 0, 2) + sheet
+    );
+}
+
+#[test]
+fn a_hundred_thousand_reads() {
+    let four = format!("{SEED_2}\n{SEED_1}\n{SEED_3}\nAAAN\n");
+    let input = four.repeat(25_000);
+    let sheet = "segments 4 present 3 sweeps 3 contradictions 0\n";
+    let expected = reads(100_000, 3, 74_997, 25_000) + sheet;
+    assert_eq!(from_file("many", Some(&P), input.as_bytes()), expected);
+    let pipe = piped(
+        "many-pipe",
+        Some(&P),
+        input.as_bytes().chunks(997),
+        Duration::ZERO,
+    );
+    assert_eq!(pipe, expected);
+}
+
+#[test]
+fn input_in_small_pieces() {
+    let pause = Duration::from_millis(1);
+    let bytes = FIVE_LINES.as_bytes();
+    assert_eq!(
+        piped("one-byte", Some(&P), bytes.chunks(1), pause),
+        TWO_LINES
+    );
+    for size in [2, 3, 5, 7, 28, 29, 30, 58] {
+        let text = piped(
+            &format!("pieces-{size}"),
+            Some(&P),
+            bytes.chunks(size),
+            pause,
+        );
+        assert_eq!(text, TWO_LINES);
+    }
+}
+
+#[test]
+fn a_pool_with_damage() {
+    // Strands of a whole file by the second implementation's writer, some of them lost, repeated, cut or changed.
+    let card = card_with(5_000, 16, 40);
+    let file: Vec<u8> = (0..5_000u32)
+        .map(|i| (i.wrapping_mul(2_654_435_761) >> 24) as u8)
+        .collect();
+    let handed = second::Handed {
+        f: 5_000,
+        l: 16,
+        r: 4,
+        m: 20,
+        lo: 0,
+        hi: 1000,
+        weights: &card[20..],
+    };
+    let n = handed.n_bases();
+    let mut strands = vec![0; 600 * (n + 1)];
+    second::write(
+        &handed,
+        &file,
+        0xACE1_2357,
+        600,
+        100_000,
+        &mut strands,
+        &mut [0; 40],
+    )
+    .unwrap();
+    let strands: Vec<&[u8]> = strands.chunks(n + 1).map(|line| &line[..n]).collect();
+    let mut state = 1u32;
+    let mut next = |below: usize| {
+        state = state.wrapping_mul(1_664_525).wrapping_add(1_013_904_223);
+        (state >> 4) as usize % below
+    };
+    let mut input = Vec::new();
+    for _ in 0..1_500 {
+        let mut read = strands[next(strands.len())].to_vec();
+        match next(10) {
+            0 => read.truncate(next(n)),
+            1 => read[next(n)] = b"ACGTN\r"[next(6)],
+            2 => read.push(b'A'),
+            _ => {}
+        }
+        input.extend_from_slice(&read);
+        input.push(b'\n');
+    }
+    let text = run("damage", Some(&card), &input);
+    assert!(text.starts_with("reads 1500 accepted "), "{text}");
+}
