@@ -1,0 +1,71 @@
+//! Cases of the read check's C form.
+
+use super::cards::{self, Numbers};
+use super::lent::hex;
+use super::random::Random;
+use super::reads;
+use super::run::Regions;
+use second::read_check_c_form;
+
+pub struct Case {
+    pub numbers: Numbers,
+    pub read: Vec<u8>,
+    /// The lent buffer as it is before the call.
+    pub out: Vec<u8>,
+}
+
+#[rustfmt::skip]
+pub const REGIONS: &[&str] = &[
+    "answer 16", "out just long enough", "out longer", "16: a byte short", "16: no bytes", "refused with a short out",
+    "out NULL", "read NULL",
+];
+
+impl Case {
+    pub fn any(random: &mut Random) -> Case {
+        let mut numbers = cards::any_accepted(random);
+        let read = reads::any_read(random, &mut numbers);
+        let length = random.length_for(numbers.record());
+        if random.once_in(6) {
+            cards::miss(random, &mut numbers);
+            if random.once_in(8) {
+                cards::miss(random, &mut numbers);
+            }
+        }
+        Case {
+            numbers,
+            read,
+            out: random.bytes(length),
+        }
+    }
+
+    /// The number and the buffer at exit, by the second implementation.
+    pub fn expected(&self) -> (u32, Vec<u8>) {
+        let mut out = self.out.clone();
+        let answer = read_check_c_form(&self.numbers.handed(), &self.read, &mut out);
+        (answer, out)
+    }
+
+    pub fn note(&self, regions: &mut Regions, answer: u32) {
+        cards::note(regions, &self.numbers, answer);
+        reads::note(regions, &self.numbers, &self.read, answer);
+        let (length, needed) = (self.out.len(), self.numbers.record());
+        regions.note_if(answer == 0 && length == needed, "out just long enough");
+        regions.note_if(answer == 0 && length > needed, "out longer");
+        regions.note_if(answer == 16 && length + 1 == needed, "16: a byte short");
+        regions.note_if(answer == 16 && length == 0, "16: no bytes");
+        regions.note_if(
+            (9..=13).contains(&answer) && length < needed,
+            "refused with a short out",
+        );
+    }
+
+    pub fn report(&self) -> String {
+        let read = String::from_utf8_lossy(&self.read);
+        format!(
+            "{} read {:?} out {}",
+            self.numbers.report(),
+            read,
+            hex(&self.out)
+        )
+    }
+}

@@ -1,0 +1,41 @@
+//! Counts of records that a shelf does not hold.
+
+use super::random::Random;
+use super::run::Regions;
+
+/// A count whose records reach past a shelf of this length: by one, by more, or near 2^64, where a product would wrap around.
+pub fn too_many(random: &mut Random, record: usize, length: usize) -> usize {
+    let whole = length / record;
+    match random.below(6) {
+        0 | 1 => whole + 1,
+        2 => whole + random.between(1, 1000),
+        3 => usize::MAX - random.below(4),
+        4 => usize::MAX / record + 1,
+        _ => usize::MAX / random.between(1, record) - random.below(4),
+    }
+}
+
+#[rustfmt::skip]
+pub const REGIONS: &[&str] = &[
+    "answer 14", "the count just fits", "14: one too many", "14: a byte short", "14: 2^64 - 1", "14: a product that wraps to fit",
+];
+
+pub fn note(regions: &mut Regions, record: usize, length: usize, count: usize, answer: u32) {
+    let fits = answer == 0 || answer > 14;
+    regions.note_if(
+        fits && count > 0 && count * record == length,
+        "the count just fits",
+    );
+    if answer == 14 {
+        regions.note_if(count == length / record + 1, "14: one too many");
+        regions.note_if(
+            count == length / record + 1 && length % record == record - 1,
+            "14: a byte short",
+        );
+        regions.note_if(count == usize::MAX, "14: 2^64 - 1");
+        regions.note_if(
+            count > length && count.wrapping_mul(record) <= length,
+            "14: a product that wraps to fit",
+        );
+    }
+}

@@ -1,0 +1,443 @@
+//! The writer of the archive `libcapi.a` beside the second implementation's, over random cases, some of them run in two parts.
+
+mod differential;
+
+use differential::cards::{self, Numbers};
+use differential::lent::{hex, Lent};
+use differential::random::Random;
+use differential::reads;
+use differential::run::{run, Regions};
+use differential::sizes;
+use second::writer::strand_letters;
+use second::{schedule_step, Stop};
+use std::iter;
+
+#[cfg(capi_missing)]
+compile_error!("target/staticlib/libcapi.a is missing: `rt staticlib capi` makes it");
+
+#[link(name = "capi", kind = "static")]
+extern "C" {
+    fn fountain_write(
+        f: u32,
+        l: u8,
+        r: u8,
+        m: u8,
+        lo: u16,
+        hi: u16,
+        weights: *const u8,
+        weights_len: usize,
+        file: *const u8,
+        file_len: usize,
+        start: u32,
+        wanted: u32,
+        budget: u32,
+        out: *mut u8,
+        out_len: usize,
+        list: *mut u32,
+        list_len: usize,
+        answer: *mut u64,
+    ) -> u32;
+}
+
+const WANTED_MOST: u32 = 1_000_000;
+
+#[derive(Clone)]
+struct Case {
+    numbers: Numbers,
+    file: Vec<u8>,
+    start: u32,
+    wanted: u32,
+    budget: u32,
+    /// Buffers as they are before the call.
+    out: Vec<u8>,
+    list: Vec<u32>,
+    answer: [u64; 4],
+}
+
+/// A call's number and what it leaves in the buffers.
+struct After {
+    number: u32,
+    out: Vec<u8>,
+    answer: [u64; 4],
+}
+
+impl Case {
+    fn any(random: &mut Random) -> Case {
+        let mut numbers = sizes::any_accepted(random);
+        let file = any_file(random, &numbers);
+        let start = reads::any_seed(random);
+        if random.once_in(3) {
+            fit_screen(random, &mut numbers, &file, start);
+        }
+        let wanted = random.one_of(&[0, 1, 1, 2, 3, 6]);
+        let budget = random.one_of(&[0, 1, 1, 2, 3, 5, 8, 12]);
+        let out_length = sizes::lent_for(random, wanted as usize * (numbers.n() + 1));
+        let list_length = sizes::lent_for(random, numbers.d());
+        let mut case = Case {
+            out: random.bytes(out_length),
+            list: (0..list_length).map(|_| random.word()).collect(),
+            answer: std::array::from_fn(|_| random.number()),
+            numbers,
+            file,
+            start,
+            wanted,
+            budget,
+        };
+        case.turn_aside(random);
+        if random.once_in(7) {
+            cards::miss(random, &mut case.numbers);
+        }
+        case
+    }
+
+    /// Sends some cases to the regions that the plain ones do not reach.
+    fn turn_aside(&mut self, random: &mut Random) {
+        match random.below(80) {
+            0 => self.file.truncate(self.file.len() - 1),
+            1 => self.file.push(0),
+            2 => self.file = random.bytes(random_length(self)),
+            3..=5 => self.start = 0,
+            6 => self.wanted = random.one_of(&[WANTED_MOST, WANTED_MOST + 1, u32::MAX, 1 << 31]),
+            7..=9 => self.unbound_budget(random),
+            10 if random.once_in(200) => self.want_most(random),
+            _ => (),
+        }
+    }
+
+    /// As many strands as may be wanted, or one over, in a buffer that is long enough.
+    fn want_most(&mut self, random: &mut Random) {
+        self.wanted = WANTED_MOST + random.below(2) as u32;
+        self.out = random.bytes(self.wanted as usize * (self.numbers.n() + 1));
+        self.list.resize(self.numbers.d(), 7);
+    }
+
+    /// A budget that is never reached, for a run that is known to be done before.
+    fn unbound_budget(&mut self, random: &mut Random) {
+        self.budget = 50;
+        let after = self.expected();
+        if after.number == 0 && after.answer[0] == 0 {
+            self.budget = random.one_of(&[u32::MAX, 1 << 31, after.answer[2] as u32]);
+        }
+    }
+
+    fn expected(&self) -> After {
+        let mut out = self.out.clone();
+        let mut list = self.list.clone();
+        let wanted = self.wanted as usize;
+        match second::write(
+            &self.numbers.handed(),
+            &self.file,
+            self.start,
+            wanted,
+            self.budget,
+            &mut out,
+            &mut list,
+        ) {
+            Ok(written) => {
+                let stop = if written.stop == Stop::Done { 0 } else { 1 };
+                let answer = [
+                    stop,
+                    written.made as u64,
+                    written.tried.into(),
+                    written.next_seed.into(),
+                ];
+                After {
+                    number: 0,
+                    out,
+                    answer,
+                }
+            }
+            Err(refusal) => After {
+                number: refusal.0.into(),
+                out,
+                answer: self.answer,
+            },
+        }
+    }
+
+    /// Runs the archive's writer and compares all that it leaves with what is expected.
+    fn compare(
+        &self,
+        random: &mut Random,
+        regions: &mut Regions,
+        expected: &After,
+    ) -> Result<(), String> {
+        let numbers = &self.numbers;
+        let weights = Lent::new(random, &numbers.weights);
+        let file = Lent::new(random, &self.file);
+        let mut out = Lent::new(random, &self.out);
+        let mut list = Lent::new(random, &self.list);
+        let mut answer = Lent::new(random, &self.answer);
+        regions.note_if(weights.is_null(), "weights NULL");
+        regions.note_if(file.is_null(), "file NULL");
+        regions.note_if(
+            out.is_null() && expected.number == 0,
+            "out NULL and accepted",
+        );
+        regions.note_if(list.is_null(), "list NULL");
+        // Each pointer stands for as many items as its length says (four numbers for the answer), and nothing overlaps.
+        let got = unsafe {
+            fountain_write(
+                numbers.f,
+                numbers.l,
+                numbers.r,
+                numbers.m,
+                numbers.lo,
+                numbers.hi,
+                weights.pointer(),
+                weights.len(),
+                file.pointer(),
+                file.len(),
+                self.start,
+                self.wanted,
+                self.budget,
+                out.pointer_mut(),
+                out.len(),
+                list.pointer_mut(),
+                list.len(),
+                answer.pointer_mut(),
+            )
+        };
+        let report = |what: String| {
+            format!(
+                "{what}; the archive answered {got}, expected is {}; {}",
+                expected.number,
+                self.report()
+            )
+        };
+        if got != expected.number {
+            return Err(report(String::from("answer")));
+        }
+        let free = if got == 0 { numbers.d() } else { 0 };
+        weights
+            .holds(&numbers.weights)
+            .map_err(|e| report(format!("weights: {e}")))?;
+        file.holds(&self.file)
+            .map_err(|e| report(format!("file: {e}")))?;
+        list.holds_past(free, &self.list)
+            .map_err(|e| report(format!("list: {e}")))?;
+        let numbers_differ = |e| {
+            report(format!(
+                "numbers {:?}, expected are {:?}: {e}",
+                answer.items(),
+                expected.answer
+            ))
+        };
+        answer.holds(&expected.answer).map_err(numbers_differ)?;
+        out.holds(&expected.out)
+            .map_err(|e| report(format!("out {}: {e}", hex(out.items()))))
+    }
+
+    /// The same run in two parts, the second from the first one's next seed, gives the same strands.
+    fn compare_resumed(
+        &self,
+        random: &mut Random,
+        regions: &mut Regions,
+        whole: &After,
+    ) -> Result<(), String> {
+        let mut first = self.clone();
+        first.budget = random.below(whole.answer[2] as usize + 1) as u32;
+        let after_first = first.expected();
+        first.compare(random, regions, &after_first)?;
+        let [_, made, tried, next] = after_first.answer;
+
+        let place = made as usize * (self.numbers.n() + 1);
+        let mut rest = self.clone();
+        rest.start = next as u32;
+        rest.wanted -= made as u32;
+        rest.budget -= tried as u32;
+        rest.out = self.out[place..].to_vec();
+        let after_rest = rest.expected();
+        rest.compare(random, regions, &after_rest)?;
+
+        let mut strands = after_first.out[..place].to_vec();
+        strands.extend_from_slice(&after_rest.out);
+        let [stop, more, tried_more, next] = after_rest.answer;
+        if strands != whole.out || [stop, made + more, tried + tried_more, next] != whole.answer {
+            return Err(format!(
+                "resumed after {tried} seeds, the run differs from one run; {}",
+                self.report()
+            ));
+        }
+        Ok(())
+    }
+
+    fn report(&self) -> String {
+        format!(
+            "{} file {} start {:08X} wanted {} budget {} out of {} bytes, list of {}",
+            self.numbers.report(),
+            hex(&self.file),
+            self.start,
+            self.wanted,
+            self.budget,
+            self.out.len(),
+            self.list.len()
+        )
+    }
+
+    fn note(&self, regions: &mut Regions, after: &After) {
+        cards::note(regions, &self.numbers, after.number);
+        let needed = self.wanted as usize * (self.numbers.n() + 1);
+        match after.number {
+            0 => self.note_written(regions, after.answer, needed),
+            5 => {
+                regions.note_if(
+                    self.file.len() + 1 == self.numbers.f as usize,
+                    "5: a byte short",
+                );
+                regions.note_if(
+                    self.file.len() == self.numbers.f as usize + 1,
+                    "5: a byte over",
+                );
+                regions.note_if(self.file.is_empty(), "5: no file");
+            }
+            7 => {
+                regions.note_if(
+                    self.wanted <= WANTED_MOST && self.out.len() + 1 == needed,
+                    "7: a byte short",
+                );
+                regions.note_if(
+                    self.wanted <= WANTED_MOST && self.out.is_empty(),
+                    "7: no bytes",
+                );
+                regions.note_if(
+                    self.wanted == WANTED_MOST + 1 && self.out.len() >= needed,
+                    "7: wanted 1,000,001 and room for them",
+                );
+                regions.note_if(self.wanted == u32::MAX, "7: wanted 4,294,967,295");
+            }
+            8 => {
+                regions.note_if(self.list.len() + 1 == self.numbers.d(), "8: one short");
+                regions.note_if(self.list.is_empty(), "8: no list");
+            }
+            _ => (),
+        }
+    }
+
+    fn note_written(&self, regions: &mut Regions, answer: [u64; 4], needed: usize) {
+        let [stop, made, tried, _] = answer;
+        sizes::note(regions, &self.numbers, self.start);
+        regions.note_if(stop == 1, "spent");
+        regions.note_if(
+            stop == 0 && tried == self.budget.into(),
+            "done and spent at once",
+        );
+        regions.note_if(
+            stop == 0 && tried < self.budget.into(),
+            "done before the budget",
+        );
+        regions.note_if(made > 0 && made < tried, "some seeds did not pass");
+        regions.note_if(made == 0 && tried > 0, "no seed passed");
+        regions.note_if(self.wanted == 0, "wanted 0");
+        regions.note_if(self.wanted == WANTED_MOST, "wanted 1,000,000");
+        regions.note_if(self.budget == 0 && self.wanted > 0, "budget 0");
+        regions.note_if(self.budget == u32::MAX, "budget 4,294,967,295");
+        regions.note_if(
+            self.wanted > 0 && self.out.len() == needed,
+            "out just long enough",
+        );
+        regions.note_if(self.out.len() > needed, "out longer");
+        regions.note_if(self.list.len() == self.numbers.d(), "list just long enough");
+        regions.note_if(self.list.len() > self.numbers.d(), "list longer");
+        let one_fell_out = iter::successors(Some(self.start), |&seed| Some(schedule_step(seed)))
+            .take(tried as usize)
+            .any(|seed| seed >= 1 << 31);
+        regions.note_if(one_fell_out, "a one fell out of the seed");
+    }
+}
+
+#[rustfmt::skip]
+const REGIONS: &[&str] = &[
+    "answer 5", "answer 6", "answer 7", "answer 8", "5: a byte short", "5: a byte over", "5: no file",
+    "7: a byte short", "7: no bytes", "7: wanted 1,000,001 and room for them", "7: wanted 4,294,967,295",
+    "8: one short", "8: no list", "spent", "done and spent at once", "done before the budget", "some seeds did not pass",
+    "no seed passed", "wanted 0", "wanted 1,000,000", "budget 0", "budget 4,294,967,295", "out just long enough", "out longer",
+    "file NULL", "out NULL and accepted", "list NULL", "list just long enough", "list longer", "a one fell out of the seed", "resumed",
+];
+
+/// A file of F bytes: any, or of few different ones, so that long runs occur.
+fn any_file(random: &mut Random, numbers: &Numbers) -> Vec<u8> {
+    if random.once_in(8) {
+        return reads::any_payload(random, numbers.f as usize);
+    }
+    random.bytes(numbers.f as usize)
+}
+
+/// A length that is not F, mostly K·L or 0.
+fn random_length(case: &Case) -> usize {
+    let whole = case.numbers.k() * usize::from(case.numbers.l);
+    if whole == case.numbers.f as usize {
+        0
+    } else {
+        whole
+    }
+}
+
+/// Sets the screen so that one of the first seeds' strands just passes or just misses it.
+fn fit_screen(random: &mut Random, numbers: &mut Numbers, file: &[u8], start: u32) {
+    let mut seed = start;
+    for _ in 0..random.below(4) {
+        seed = schedule_step(seed);
+    }
+    let strand = strand_letters(&numbers.handed(), file, seed);
+    if random.once_in(3) {
+        reads::let_miss(random, numbers, &strand);
+    } else {
+        reads::let_pass(random, numbers, &strand);
+    }
+}
+
+fn case(random: &mut Random, regions: &mut Regions) -> Result<(), String> {
+    let case = Case::any(random);
+    let expected = case.expected();
+    case.note(regions, &expected);
+    case.compare(random, regions, &expected)?;
+    if expected.number == 0 && random.once_in(4) {
+        regions.note("resumed");
+        case.compare_resumed(random, regions, &expected)?;
+    }
+    Ok(())
+}
+
+/// Seeds of degree 1,024 under the largest K, whose sets turn on a collision among the last segments.
+#[test]
+fn late_collisions() {
+    let random = &mut Random::of_case("late_collisions", 0);
+    let mut weights = vec![0; cards::D_MOST];
+    weights[cards::D_MOST - 1] = 2;
+    let mut numbers = cards::accepted(random, 1, cards::K_MOST, 1);
+    (numbers.m, numbers.lo, numbers.hi) = (20, 0, 1000);
+    numbers.weights = cards::bytes_of(&weights);
+    let out = random.bytes(3 * (numbers.n() + 1));
+    let mut case = Case {
+        file: random.bytes(cards::K_MOST),
+        start: 1,
+        wanted: 2,
+        budget: 3,
+        out,
+        list: vec![7; cards::D_MOST + 1],
+        answer: [9; 4],
+        numbers,
+    };
+    for _ in 0..20 {
+        case.start = sizes::seed_of_late_collision(random);
+        let expected = case.expected();
+        assert_eq!((expected.number, expected.answer[1]), (0, 2));
+        case.compare(random, &mut Regions::default(), &expected)
+            .unwrap_or_else(|report| panic!("{report}"));
+    }
+}
+
+#[test]
+fn write() {
+    run(
+        "write",
+        &[
+            cards::REGIONS,
+            cards::HANDED_REGIONS,
+            sizes::REGIONS,
+            REGIONS,
+        ],
+        case,
+    );
+}
