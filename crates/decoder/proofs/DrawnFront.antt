@@ -3,23 +3,21 @@
 use mathlib.Core.Path.{_≡_, refl, sym, ap, _∙_}
 use mathlib.Core.List.{List, [], _∷_, _++_}
 use mathlib.Core.Logic.{inl, inr}
-use Prim.Native.Nat.{ℕ, zero, suc, _+_, _-_, _%_, _≤_, _<_}
+use Prim.Native.Nat.{ℕ, zero, suc, _+_, _-_, _%_, _≤_}
 use native.Mathlib.Nat.{mod-lt, le-refl}
 use native.Mathlib.Omega.{arith}
 use lib.ListN.{length, take, drop, length-append}
-use lib.Seq.{length-take-le, take-length, take-all, take-at, drop-at, take-take, take-append-le, take-append-seam}
-use Rattle.field.specs.Bytes.{All}
+use lib.Seq.{length-take-le, take-length, take-all, drop-at, take-take, take-append-le, take-append-seam}
 use Rattle.field.specs.declared.generator.Draw.{Draw}
 use Rattle.field.specs.Generator.{afterDraw, numberDrawn}
 use Rattle.field.proofs.Tests.{either}
 use Rattle.droplet.specs.Droplet.{member, joining, pickFrom}
-use Rattle.droplet.proofs.Sets.{pick-length, picked}
+use Rattle.droplet.proofs.Sets.{pick-length}
 use Rattle.droplet.proofs.Picking.{Picking}
 use Rattle.decoder.specs.declared.restorer.Unmarked.{Unmarked}
 use Rattle.decoder.specs.declared.restorer.Unmarked.the-variants.{Several}
 use Rattle.decoder.specs.Restorer.{missing}
-use Rattle.decoder.specs.Loops.{unmarkedOf, AllBelow, Looked}
-use Rattle.decoder.proofs.AllOf.{all-map}
+use Rattle.decoder.specs.Loops.{unmarkedOf, Looked}
 use Rattle.decoder.proofs.Unmarked.{several-front}
 
 -- what joins is at most j
@@ -58,24 +56,12 @@ module _ (k d : ℕ) (first : Draw) (lent : List ℕ) where
       rest = h .rest;
     }
 
-    pub whole-picked : (between : List ℕ) (r : Unmarked) → drop d between ≡ drop d lent → after ≡ whole ++ drop d between
-        → r ≡ unmarkedOf (missing marks (take d after)) → Looked whole marks d lent after r
-    whole-picked between r rest picked e =
-        let front : take d after ≡ whole = ap (take d) picked ∙ take-at whole (drop d between) d whole-length in
-        record {
-          found = rw front at e;
-          front = λ no. rw whole-length front;
-          rest = ap (drop d) picked ∙ drop-at whole (drop d between) d whole-length ∙ rest;
-        }
-
-  whole-below : d ≤ k → All (λ s. s < k) whole
-  whole-below few = let e : k - d + d ≡ k = omega arith in rw e at (picked d first (k - d) [] tt tt .0)
-
-  pub picked-below : (n : ℕ) (after rest : List ℕ) → d ≤ k → k ≤ n → after ≡ whole ++ rest → AllBelow n (take d after)
-  unfolding AllBelow
-  picked-below n after rest few more e =
-      let front : take d after ≡ whole = ap (take d) e ∙ take-at whole rest d whole-length in
-      rw front (all-map (λ s. s < k) (λ s. s < n) (λ s h. omega arith) whole (whole-below few))
+    -- drawn again, after a first look that kept what is past the set
+    pub whole-again : (between : List ℕ) (r : Unmarked) → drop d between ≡ drop d lent → Looked (take d whole) marks d between after r
+        → Looked whole marks d lent after r
+    whole-again between r rest h =
+        let t : Looked whole marks d between after r = rw (take-all d whole (rw whole-length (le-refl d))) at h in
+        record { found = t .found; front = t .front; rest = t .rest ∙ rest }
 
   module _ (state : Draw) (list : List ℕ) (j i : ℕ) (now : Picking k d first lent state list j i) (room : d ≤ length lent) where
     joined-length : length (take i list) ≡ i

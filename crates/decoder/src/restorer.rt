@@ -6,19 +6,19 @@ ghost use Rattle.field.specs.Bytes.{fromBigEndian, xorLists, padded};
 ghost use Rattle.field.specs.Generator.{numberDrawn};
 ghost use Rattle.droplet.specs.PoolCard.{weightCount};
 ghost use Rattle.droplet.specs.Droplet.{joining, pickFrom, payload};
-ghost use Rattle.droplet.specs.Loops.{Drawable};
+ghost use Rattle.droplet.specs.Loops.{Drawable, Marked};
 ghost use Rattle.decoder.specs.Shelf.{recordFrom, records};
-ghost use Rattle.decoder.specs.Restorer.{missing, recovered, filled, step, pass, present, peel, restoration, contradicts, contradictions, hasSeed, RestorePromise};
-ghost use Rattle.decoder.specs.Loops.{recordAt, dropletOf, dropletsOf, unmarkedOf, lookedAt, AllBelow, Looked, Seen, Room, Filled, Ended, Recovered, laterRefusal};
+ghost use Rattle.decoder.specs.Restorer.{recovered, filled, step, pass, present, peel, restoration, contradicts, contradictions, hasSeed, RestorePromise};
+ghost use Rattle.decoder.specs.Loops.{recordAt, dropletOf, dropletsOf, lookedAt, AllBelow, Looked, Seen, Room, Filled, Ended, Recovered, laterRefusal};
 use crate::shelf::starts_with;
 use droplet::card::Card;
 use droplet::card::Plan;
 use droplet::card::PlanAnswer;
 use droplet::card::check_plan;
-use droplet::droplet::contains;
 use droplet::droplet::degree_for;
+use droplet::droplet::has_joined;
+use droplet::droplet::mark;
 use droplet::droplet::payload_of;
-use droplet::droplet::pick;
 use droplet::droplet::xor_into;
 use droplet::droplet::xor_segment;
 use field::generator::Draw;
@@ -105,37 +105,17 @@ fn look_at(found: Unmarked, s: u32, mark: u8) -> Unmarked
     }
 }
 
-// Which segments of `list` are unmarked. It stops at the second.
-fn find_unmarked(marks: &[u8], list: &[u32]) -> Unmarked
-    requires { ⌜ AllBelow (length (now marks)) (now list) ⌝ }
-    ensures { λ r. ⌜ r ≡ unmarkedOf (missing (now (marks .entry)) (now (list .entry))) ⌝ }
-{
-    let mut found = Unmarked::None;
-    let mut i = 0;
-    while i < list.len() {
-        let s = list[i];
-        let m = s as usize;
-        let next = look_at(found, s, marks[m]);
-        if let Unmarked::Several = next {
-            return Unmarked::Several;
-        }
-        found = next;
-        i += 1;
-    }
-    found
-}
-
-// The segment that joins those of `list` by the draw that ended in `state`.
-fn joining_segment(state: Draw, j: u32, list: &[u32]) -> u32
-    requires { ⌜ j < 131072 ⌝ }
+// The segment that joins those of `list` by the draw that ended in `state`. `words` is a bitmap of the list, of any length.
+fn joining_segment(state: Draw, j: u32, list: &[u32], words: &[u64]) -> u32
+    requires { ⌜ (j < 131072) × Marked (now words) (now list) ⌝ }
     ensures { λ r. ⌜ r ≡ joining (now (list .entry)) j (numberDrawn state % (j + 1)) ⌝ }
 {
     let t = state.number() % (j + 1);
-    if contains(list, t) { j } else { t }
+    if has_joined(words, list, t) { j } else { t }
 }
 
 // Draws the first `n` of the `d` segments of a set, and looks at the mark of each as it joins. At the second unmarked one it
-// stops: the record is of no use in this pass.
+// stops: the record is of no use in this pass. `words` is an empty bitmap of any length.
 fn draw_front(
     mut state: Draw,
     k: u32,
@@ -143,8 +123,9 @@ fn draw_front(
     n: usize,
     marks: &[u8],
     list: &mut [u32],
+    words: &mut [u64],
 ) -> Unmarked
-    requires { ⌜ (k ≤ 131072) × (d ≤ k) × (n ≤ d) × (d ≤ length (now list)) × (k ≤ length (now marks)) ⌝ }
+    requires { ⌜ (k ≤ 131072) × (d ≤ k) × (n ≤ d) × (d ≤ length (now list)) × (k ≤ length (now marks)) × Marked (now words) [] ⌝ }
     ensures { λ r. ⌜ Looked (take n (pickFrom d state (k - d) [])) (now (marks .entry)) d (now (list .entry)) (now (list .exit)) r ⌝ }
 {
     let mut j = k - (d as u32);
@@ -152,7 +133,8 @@ fn draw_front(
     let mut i = 0;
     while i < n {
         state = state.next();
-        let s = joining_segment(state, j, &list[..i]);
+        let s = joining_segment(state, j, &list[..i], words);
+        mark(words, s);
         list[i] = s;
         let m = s as usize;
         let next = look_at(found, s, marks[m]);
@@ -167,19 +149,20 @@ fn draw_front(
 }
 
 // The set of `d` segments out of `k` that the draws after `state` pick, and which of them are unmarked. Most records that are of
-// no use show it in their first segments; the others are drawn whole.
+// no use show it in their first segments, for which a scan is faster than a bitmap; the others are drawn again with one.
 fn draw_set(state: Draw, k: u32, d: usize, marks: &[u8], list: &mut [u32]) -> Unmarked
     requires { ⌜ (k ≤ 131072) × (d ≤ k) × (d ≤ length (now list)) × (k ≤ length (now marks)) ⌝ }
     ensures { λ r. ⌜ Looked (pickFrom d state (k - d) []) (now (marks .entry)) d (now (list .entry)) (now (list .exit)) r ⌝ }
 {
+    let mut none = [0u64; 0];
     if d <= 16 {
-        return draw_front(state, k, d, d, marks, list);
+        return draw_front(state, k, d, d, marks, list, &mut none);
     }
-    if let Unmarked::Several = draw_front(state, k, d, 16, marks, list) {
+    if let Unmarked::Several = draw_front(state, k, d, 16, marks, list, &mut none) {
         return Unmarked::Several;
     }
-    pick(state, k, d, list);
-    find_unmarked(marks, &list[..d])
+    let mut words = [0u64; 2048];
+    draw_front(state, k, d, d, marks, list, &mut words)
 }
 
 // The set of a record, and which of its segments are unmarked.

@@ -1,6 +1,7 @@
 ghost use mathlib.Core.Path.{_≡_};
 ghost use Prim.Native.Nat.{_≤_};
 ghost use lib.ListN.{length, take};
+ghost use Rattle.droplet.specs.Questions.{cardRefusal};
 ghost use Rattle.strand.specs.ReadCheck.{droplet, readCheck};
 ghost use Rattle.decoder.specs.Shelf.{sameBytes, countFits, appended, shelvedReading, StorePromise};
 ghost use Rattle.decoder.specs.StoreLoops.{Within, Sought, Keeps, refusalNumber};
@@ -106,12 +107,13 @@ fn refusal_of(outcome: ReadOutcome) -> u8
     }
 }
 
-// The questions 9 to 13, 15 and 16: the droplet is taken out of the read check's answer, or its refusal is handed on.
+// The questions 9 to 13, 15 and 16: the droplet is taken out of the read check's answer, or its refusal is handed on. The card's
+// own questions have been asked, so the weights are not summed again; they are lent for the contract alone.
 fn offer(card: Card, weights: &[u8], shelf: &mut [u8], count: usize, read: &[u8]) -> StoreAnswer
-    requires { ⌜ Within (card .l) count (now shelf) ⌝ }
+    requires { ⌜ Within (card .l) count (now shelf) × (cardRefusal card (now weights) ≡ 0) ⌝ }
     ensures { λ r. ⌜ Keeps (shelvedReading (card .l) (now (shelf .entry)) count (readCheck card (now (weights .entry)) (now (read .entry)))) r (now (shelf .exit)) ⌝ }
 {
-    let answer = read_check::check_read(card, weights, read);
+    let answer = read_check::check_strand(card, read);
     let outcome = answer.outcome;
     let payload = answer.payload;
     let ReadOutcome::Droplet(seed) = outcome else {

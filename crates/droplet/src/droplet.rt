@@ -24,7 +24,7 @@ pub fn degree_for(weights: &[u8], r: u32) -> usize
 }
 
 // Whether `t` is in `list`.
-pub fn contains(list: &[u32], t: u32) -> bool
+fn contains(list: &[u32], t: u32) -> bool
     ensures { λ r. ⌜ r ≡ member t (now (list .entry)) ⌝ }
 {
     let mut i = 0;
@@ -38,7 +38,7 @@ pub fn contains(list: &[u32], t: u32) -> bool
 }
 
 // Whether `t` has joined: by its bit where the bitmap has one for it, otherwise by a scan of the list.
-fn has_joined(words: &[u64], list: &[u32], t: u32) -> bool
+pub fn has_joined(words: &[u64], list: &[u32], t: u32) -> bool
     requires { ⌜ Marked (now words) (now list) ⌝ }
     ensures { λ r. ⌜ r ≡ member t (now (list .entry)) ⌝ }
 {
@@ -51,7 +51,7 @@ fn has_joined(words: &[u64], list: &[u32], t: u32) -> bool
 }
 
 // `s` joins the bitmap where that has a bit for it.
-fn mark(words: &mut [u64], s: u32)
+pub fn mark(words: &mut [u64], s: u32)
     ensures { λ r. ⌜ now (words .exit) ≡ withBit (now (words .entry)) s ⌝ }
 {
     let w = (s / 64) as usize;

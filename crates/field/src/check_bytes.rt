@@ -1,8 +1,6 @@
 ghost use mathlib.Core.Path.{_≡_};
-ghost use lib.ListN.{take};
 ghost use Rattle.field.specs.Bytes.{padded};
-ghost use Rattle.field.specs.CheckBytes.{CheckCount, double, syndromes, remainderAfter, parity};
-ghost use Rattle.field.specs.Loops.{sumsAfter};
+ghost use Rattle.field.specs.CheckBytes.{CheckCount, double, syndromes, parity};
 
 // `x` times the root.
 pub fn times_root(x: u8) -> u8
@@ -12,18 +10,40 @@ pub fn times_root(x: u8) -> u8
     if x >= 128 { up ^ 0x1D } else { up }
 }
 
-// The sums after one more byte of the word.
-fn absorb(r: u8, sums: [u8; 4], b: u8) -> [u8; 4]
-    requires { ⌜ CheckCount r ⌝ }
-    ensures { λ s. ⌜ s ≡ sumsAfter r sums b ⌝ }
+// The two syndromes of a word. They are numbers and no array in the loop, where an array would be packed and unpacked at each
+// byte; so it is in the three loops below.
+fn syndromes_two(word: &[u8]) -> [u8; 4]
+    ensures { λ s. ⌜ s ≡ syndromes 2 (now (word .entry)) ⌝ }
 {
-    let one = times_root(sums[1]);
-    if r == 2 {
-        return [sums[0] ^ b, one ^ b, 0, 0];
+    let mut zero: u8 = 0;
+    let mut one: u8 = 0;
+    let mut j = 0;
+    while j < word.len() {
+        let b = word[j];
+        zero = zero ^ b;
+        one = times_root(one) ^ b;
+        j += 1;
     }
-    let two = times_root(times_root(sums[2]));
-    let three = times_root(times_root(times_root(sums[3])));
-    [sums[0] ^ b, one ^ b, two ^ b, three ^ b]
+    [zero, one, 0, 0]
+}
+
+fn syndromes_four(word: &[u8]) -> [u8; 4]
+    ensures { λ s. ⌜ s ≡ syndromes 4 (now (word .entry)) ⌝ }
+{
+    let mut zero: u8 = 0;
+    let mut one: u8 = 0;
+    let mut two: u8 = 0;
+    let mut three: u8 = 0;
+    let mut j = 0;
+    while j < word.len() {
+        let b = word[j];
+        zero = zero ^ b;
+        one = times_root(one) ^ b;
+        two = times_root(times_root(two)) ^ b;
+        three = times_root(times_root(times_root(three))) ^ b;
+        j += 1;
+    }
+    [zero, one, two, three]
 }
 
 // The `r` syndromes of a word, as four bytes, those past `r` being 0.
@@ -31,38 +51,53 @@ pub fn syndromes_of(r: u8, word: &[u8]) -> [u8; 4]
     requires { ⌜ CheckCount r ⌝ }
     ensures { λ s. ⌜ s ≡ syndromes r (now (word .entry)) ⌝ }
 {
-    let mut sums = [0u8; 4];
-    let mut j = 0;
-    while j < word.len() {
-        let next = absorb(r, sums, word[j]);
-        sums = next;
-        j += 1;
+    if r == 2 {
+        return syndromes_two(word);
     }
-    sums
+    syndromes_four(word)
 }
 
-// The remainder after one more byte of the message: the register moves up one place, and a multiple of the generator
-// polynomial takes out what left it.
-fn divide(r: u8, register: [u8; 4], b: u8) -> [u8; 4]
-    requires { ⌜ CheckCount r ⌝ }
-    ensures { λ s. ⌜ s ≡ padded 4 (remainderAfter r (take r register) b) ⌝ }
+// The two parity bytes of a message, by long division: at each byte the remainder moves up one place, and a multiple of the
+// generator polynomial takes out what left it.
+fn parity_two(message: &[u8]) -> [u8; 4]
+    ensures { λ s. ⌜ s ≡ padded 4 (parity 2 (now (message .entry))) ⌝ }
 {
-    let f = register[0] ^ b;
-    let f2 = times_root(f);
-    if r == 2 {
-        return [register[1] ^ (f ^ f2), f2, 0, 0];
+    let mut a: u8 = 0;
+    let mut b: u8 = 0;
+    let mut j = 0;
+    while j < message.len() {
+        let f = a ^ message[j];
+        let f2 = times_root(f);
+        a = b ^ (f ^ f2);
+        b = f2;
+        j += 1;
     }
-    let f4 = times_root(f2);
-    let f8 = times_root(f4);
-    let f16 = times_root(f8);
-    let f32 = times_root(f16);
-    let f64 = times_root(f32);
-    [
-        register[1] ^ (f ^ f2 ^ f4 ^ f8),
-        register[2] ^ (f2 ^ f4 ^ f16 ^ f32),
-        register[3] ^ (f8 ^ f16 ^ f32 ^ f64),
-        f64,
-    ]
+    [a, b, 0, 0]
+}
+
+fn parity_four(message: &[u8]) -> [u8; 4]
+    ensures { λ s. ⌜ s ≡ padded 4 (parity 4 (now (message .entry))) ⌝ }
+{
+    let mut a: u8 = 0;
+    let mut b: u8 = 0;
+    let mut c: u8 = 0;
+    let mut d: u8 = 0;
+    let mut j = 0;
+    while j < message.len() {
+        let f = a ^ message[j];
+        let f2 = times_root(f);
+        let f4 = times_root(f2);
+        let f8 = times_root(f4);
+        let f16 = times_root(f8);
+        let f32 = times_root(f16);
+        let f64 = times_root(f32);
+        a = b ^ (f ^ f2 ^ f4 ^ f8);
+        b = c ^ (f2 ^ f4 ^ f16 ^ f32);
+        c = d ^ (f8 ^ f16 ^ f32 ^ f64);
+        d = f64;
+        j += 1;
+    }
+    [a, b, c, d]
 }
 
 // The `r` parity bytes of a message, as four bytes, those past `r` being 0.
@@ -70,12 +105,8 @@ pub fn parity_of(r: u8, message: &[u8]) -> [u8; 4]
     requires { ⌜ CheckCount r ⌝ }
     ensures { λ s. ⌜ s ≡ padded 4 (parity r (now (message .entry))) ⌝ }
 {
-    let mut register = [0u8; 4];
-    let mut j = 0;
-    while j < message.len() {
-        let next = divide(r, register, message[j]);
-        register = next;
-        j += 1;
+    if r == 2 {
+        return parity_two(message);
     }
-    register
+    parity_four(message)
 }

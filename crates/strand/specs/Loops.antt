@@ -2,7 +2,7 @@
 use mathlib.Core.Path.{_≡_}
 use mathlib.Core.Bool.{cond, Bool, _&&_}
 use mathlib.Core.List.{List, [], _∷_, _++_}
-use Prim.Native.Nat.{ℕ, suc, max, _≤_, _+_, _*_}
+use Prim.Native.Nat.{ℕ, zero, suc, max, _≤_, _+_, _*_, _/_, _%_}
 use lib.Dec.{eqb, leb}
 use lib.ListN.{length, take, drop}
 use Rattle.field.specs.CheckBytes.{CheckCount}
@@ -12,15 +12,54 @@ use Rattle.droplet.specs.declared.card.Plan.{Plan}
 use Rattle.droplet.specs.Questions.{cardRefusal}
 use Rattle.strand.specs.declared.letters.Spelled.{Spelled}
 use Rattle.strand.specs.declared.letters.Spelled.the-variants.{Byte, Nothing}
+use Rattle.strand.specs.declared.screen.Inside.{Inside}
 use Rattle.strand.specs.declared.screen.Runs.{Runs}
 use Rattle.strand.specs.Letters.{allLetters, lettersByte}
 use Rattle.strand.specs.declared.writer.Run.{Run}
-use Rattle.strand.specs.Screen.{screenPasses}
+use Rattle.strand.specs.Screen.{byteGc, screenPasses}
 use Rattle.strand.specs.Writer.{seedWord, strandLine, written, writerRun}
 
 -- the byte of four letters, or nothing
 unfoldable pub spelled : ℕ → ℕ → ℕ → ℕ → Spelled
 spelled a b c d = cond (allLetters (a ∷ b ∷ c ∷ d ∷ [])) (Byte (lettersByte a b c d)) Nothing
+
+-- f at each number below n
+unfoldable pub tableOf : ℕ → (ℕ → ℕ) → List ℕ
+tableOf zero f = []
+tableOf (suc n) f = f zero ∷ tableOf n (λ k. f (suc k))
+
+-- the table of 256 entries: how many of a byte's four bases are C or G
+unfoldable pub gcTable : List ℕ
+gcTable = tableOf 256 byteGc
+
+-- of four bases, whose neighbours are equal or not: how many past the first are equal at their start, at their end, and in the
+-- longest run
+abbrev pub startMore : Bool → Bool → Bool → ℕ
+startMore e f g = cond e (cond f (cond g 3 2) 1) 0
+
+abbrev pub endMore : Bool → Bool → Bool → ℕ
+endMore e f g = cond g (cond f (cond e 3 2) 1) 0
+
+abbrev pub longestMore : Bool → Bool → Bool → ℕ
+longestMore e f g = cond f (cond e (cond g 3 2) (cond g 2 1)) (cond e 1 (cond g 1 0))
+
+abbrev pub packedMore : Bool → Bool → Bool → ℕ
+packedMore e f g = startMore e f g + 4 * endMore e f g + 16 * longestMore e f g
+
+-- the table of 64 entries, by three pairs of bits, 0 where neighbours are equal
+unfoldable pub runsTable : List ℕ
+runsTable = tableOf 64 (λ x. packedMore (eqb (x / 16) 0) (eqb (x / 4 % 4) 0) (eqb (x % 4) 0))
+
+-- the runs inside four bases, and inside a byte
+abbrev pub insideFour : ℕ → ℕ → ℕ → ℕ → Inside
+insideFour a b c d =
+    let e = eqb b a in
+    let f = eqb c b in
+    let g = eqb d c in
+    record { start = startMore e f g; end = endMore e f g; longest = longestMore e f g }
+
+unfoldable pub insideOf : ℕ → Inside
+insideOf b = insideFour (b / 64 % 4) (b / 16 % 4) (b / 4 % 4) (b % 4)
 
 -- the runs after one more base
 unfoldable pub runsAfter : Runs → ℕ → Runs

@@ -109,15 +109,21 @@ fn check_length(card: Card, read: &[u8], buffer: &mut [u8]) -> ReadAnswer
     check_letters(card, read, &mut buffer[..size])
 }
 
+// The questions 9 to 13, for a caller that has asked the card's own.
+pub fn check_strand(card: Card, read: &[u8]) -> ReadAnswer
+    requires { ⌜ Measured card ⌝ }
+    ensures { λ r. ⌜ Answers (lettersReading card (now (read .entry))) r ⌝ }
+{
+    let mut word = [0u8; 72];
+    check_length(card, read, &mut word)
+}
+
 // The read check.
 pub fn check_read(card: Card, weights: &[u8], read: &[u8]) -> ReadAnswer
     ensures { λ r. ⌜ Answers (readCheck card (now (weights .entry)) (now (read .entry))) r ⌝ }
 {
     match card::check_plan(card, weights) {
         PlanAnswer::Refused(n) => refuse(n),
-        PlanAnswer::Ready(_) => {
-            let mut word = [0u8; 72];
-            check_length(card, read, &mut word)
-        }
+        PlanAnswer::Ready(_) => check_strand(card, read),
     }
 }

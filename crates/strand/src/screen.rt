@@ -1,10 +1,10 @@
 ghost use mathlib.Core.Path.{_≡_};
 ghost use mathlib.Core.List.{foldl};
-ghost use Prim.Native.Nat.{_+_, _*_, _≤_};
+ghost use Prim.Native.Nat.{_+_, _*_, _≤_, max};
 ghost use lib.ListN.{length};
 ghost use Rattle.strand.specs.Letters.{byteBases, wordBases};
 ghost use Rattle.strand.specs.Screen.{longestRun, gcCount, byteGc, withinLimits, screenPasses};
-ghost use Rattle.strand.specs.Loops.{runsAfter};
+ghost use Rattle.strand.specs.Loops.{gcTable, runsTable, insideOf, runsAfter};
 use crate::letters;
 use droplet::card;
 use droplet::card::Bases;
@@ -23,6 +23,82 @@ pub struct Runs {
     pub run: usize,
     pub longest: usize,
 }
+
+// The runs inside a byte, each by how many bases it has past its first one: the run at the byte's start, the one at its end and
+// the longest.
+pub struct Inside {
+    pub start: u8,
+    pub end: u8,
+    pub longest: u8,
+}
+
+// The three numbers for each way in which a byte's neighbouring bases can differ: start, 4 times end and 16 times longest.
+const RUNS: [u8; 64] = [
+    63,
+    34,
+    34,
+    34,
+    21,
+    17,
+    17,
+    17,
+    21,
+    17,
+    17,
+    17,
+    21,
+    17,
+    17,
+    17,
+    40,
+    16,
+    16,
+    16,
+    20,
+    0,
+    0,
+    0,
+    20,
+    0,
+    0,
+    0,
+    20,
+    0,
+    0,
+    0,
+    40,
+    16,
+    16,
+    16,
+    20,
+    0,
+    0,
+    0,
+    20,
+    0,
+    0,
+    0,
+    20,
+    0,
+    0,
+    0,
+    40,
+    16,
+    16,
+    16,
+    20,
+    0,
+    0,
+    0,
+    20,
+    0,
+    0,
+    0,
+    20,
+    0,
+    0,
+    0,
+];
 
 // How many of a byte's four bases are C or G.
 const GC: [u8; 256] = [
@@ -284,10 +360,13 @@ const GC: [u8; 256] = [
     0,
 ];
 
-pub fn gc_of(b: u8) -> u8
+// A byte's entry of the table. The table is lent, since a constant that is indexed is written out at each use.
+fn gc_of(table: &[u8; 256], b: u8) -> u8
+    requires { ⌜ now table ≡ gcTable ⌝ }
     ensures { λ r. ⌜ r ≡ byteGc b ⌝ }
 {
-    GC[b as usize]
+    let i = b as usize;
+    table[i]
 }
 
 fn add_base(runs: Runs, base: u8) -> Runs
@@ -307,15 +386,47 @@ fn add_base(runs: Runs, base: u8) -> Runs
     }
 }
 
-fn add_byte(runs: Runs, b: u8) -> Runs
-    requires { ⌜ runs .run ≤ 65000 ⌝ }
+// The longer of two lengths.
+fn longer(a: usize, b: usize) -> usize
+    ensures { λ r. ⌜ r ≡ max a b ⌝ }
+{
+    if a < b { b } else { a }
+}
+
+// The runs inside a byte. Its XOR with itself moved by one base has a pair of bits 0 just where two neighbours are equal.
+fn inside_of(table: &[u8; 64], b: u8) -> Inside
+    requires { ⌜ now table ≡ runsTable ⌝ }
+    ensures { λ r. ⌜ r ≡ insideOf b ⌝ }
+{
+    let i = ((b ^ (b >> 2)) % 64) as usize;
+    let t = table[i];
+    Inside {
+        start: t % 4,
+        end: t / 4 % 4,
+        longest: t / 16 % 4,
+    }
+}
+
+// The runs after a byte's four bases: the first base as any other, the rest by the table.
+fn add_byte(table: &[u8; 64], runs: Runs, b: u8) -> Runs
+    requires { ⌜ (now table ≡ runsTable) × (runs .run ≤ 65000) ⌝ }
     ensures { λ r. ⌜ r ≡ foldl runsAfter runs (byteBases b) ⌝ }
 {
     let bases = letters::byte_bases(b);
     let one = add_base(runs, bases[0]);
-    let two = add_base(one, bases[1]);
-    let three = add_base(two, bases[2]);
-    add_base(three, bases[3])
+    let inside = inside_of(table, b);
+    let head = one.run + inside.start as usize;
+    let longest = longer(longer(one.longest, inside.longest as usize + 1), head);
+    let run = if inside.start == 3 {
+        head
+    } else {
+        inside.end as usize + 1
+    };
+    Runs {
+        last: bases[3],
+        run,
+        longest,
+    }
 }
 
 // The longest run of a word's bases, and how many of them are C or G.
@@ -333,9 +444,9 @@ pub fn measure_of(word: &[u8]) -> Measure
     let mut i = 0;
     while i < word.len() {
         let b = word[i];
-        let next = add_byte(runs, b);
+        let next = add_byte(&RUNS, runs, b);
         runs = next;
-        gc += gc_of(b) as usize;
+        gc += gc_of(&GC, b) as usize;
         i += 1;
     }
     Measure {

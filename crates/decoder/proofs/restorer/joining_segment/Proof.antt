@@ -6,10 +6,10 @@ use Rattle.decoder.proofs.restorer.joining_segment.Statement.{statement
 use Rattle.decoder.proofs.restorer.joining_segment.Tie as tie
 
 returns : tie.Need-returns
-returns c = rw (← (c .before .before .number .ensures)) (sym (joins-taken _ _ _ (sym (c .before .contains .ensures) ∙ c .if1 .taken)))
+returns c = rw (← (c .before .before .number .ensures)) (sym (joins-taken _ _ _ (sym (c .before .has-joined .ensures) ∙ c .if1 .taken)))
 
 returns-2 : tie.Need-returns-2
-returns-2 c = rw (← (c .before .before .number .ensures)) (sym (joins-free _ _ _ (sym (c .before .contains .ensures) ∙ c .if1 .left)))
+returns-2 c = rw (← (c .before .before .number .ensures)) (sym (joins-free _ _ _ (sym (c .before .has-joined .ensures) ∙ c .if1 .left)))
 
 pub joining-segment-spec : {M : Type 1} → statement M
 joining-segment-spec =

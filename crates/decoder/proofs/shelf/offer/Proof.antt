@@ -5,7 +5,9 @@ use Prim.Native.Nat.{ℕ}
 use native.Mathlib.Omega.{arith}
 use borrow.Author.Needs.{needs}
 use lib.ListN.{length, take, length-take}
-use Rattle.strand.specs.ReadCheck.{Reading, refused}
+use Rattle.droplet.proofs.LegalCard.{legal as legal-card}
+use Rattle.strand.specs.ReadCheck.{Reading, refused, readCheck, Answers}
+use Rattle.strand.proofs.ReadingCases.{case-letters}
 use Rattle.strand.proofs.ReadAnswers.{Accepts, accepts, refuses}
 use Rattle.decoder.specs.declared.shelf.StoreAnswer.the-variants.{Refused}
 use Rattle.decoder.specs.Shelf.{shelvedReading}
@@ -18,17 +20,30 @@ handed-on : (L : ℕ) (buffer : List ℕ) (count : ℕ) (reading : Reading) (n :
 unfolding shelvedReading
 handed-on L buffer count reading n e = rw e (record { says = refl; leaves = refl })
 
+-- the card was not refused, so this is the read check's answer
+answered : (c : tie.After-check-strand) → (let args = c .before .before .before .before .args in
+    Answers (readCheck (args .card) (args .weights .now) (args .read .now)) (c .check-strand .result))
+answered c =
+    let s = c .before .before .before .before in
+    rw (case-letters (s .args .card) (s .args .weights .now) (s .args .read .now) (s .pre .1)) (c .check-strand .ensures)
+
 -- the answer holds a droplet
 legal : (c : tie.After-known-told) → (let check = c .before .before .before .before in
     let args = check .before .before .before .before .args in
-    Accepts (args .card) (args .weights .now) (args .read .now) (c .before .outcome .given .0 .0) (check .check-read .result .payload))
-legal c = accepts _ _ _ _ (c .before .before .before .before .check-read .ensures) _ (c .before .outcome .given .1)
+    Accepts (args .card) (args .weights .now) (args .read .now) (c .before .outcome .given .0 .0) (check .check-strand .result .payload))
+legal c = accepts _ _ _ _ (answered (c .before .before .before .before)) _ (c .before .outcome .given .1)
 
 -- of its payload array the first L bytes are lent
 size : (c : tie.After-known-told) → (let check = c .before .before .before .before in
     let L = check .before .before .before .before .args .card .l in
-    length (take L (check .check-read .result .payload)) ≡ L)
+    length (take L (check .check-strand .result .payload)) ≡ L)
 size c = rw (legal c .first) (legal c .legal .size)
+
+check-strand-requires : tie.Need-check-strand-requires
+check-strand-requires c κs =
+    let s = c .before .before .before in
+    let sizes = legal-card (s .args .card) (s .args .weights .now) (s .pre .1) .sizes in
+    record { l-most = sizes .l-most; check-count = sizes .check-count }
 
 returns : tie.Need-returns
 returns c =
@@ -37,13 +52,13 @@ returns c =
     let args = check .before .before .before .before .args in
     rw (c .refusal-of .ensures ∙ ap refusalNumber (told .enum-told .given .1))
     (handed-on (args .card .l) (args .shelf .now) (args .count) _ _
-    (refuses _ _ _ _ (check .check-read .ensures) _ (told .enum-told .given .1)))
+    (refuses _ _ _ _ (answered check) _ (told .enum-told .given .1)))
 
 array-share-prefix-payload : tie.Need-array-share-prefix-payload
 array-share-prefix-payload c =
     let told = c .before .before in
     let check = told .before .before .before .before in
-    omega (arith, size told, length-take (check .before .before .before .before .args .card .l) (check .check-read .result .payload))
+    omega (arith, size told, length-take (check .before .before .before .before .args .card .l) (check .check-strand .result .payload))
 
 slice-aggregate-shelve : tie.Need-slice-aggregate-shelve
 slice-aggregate-shelve c = sym (size (c .before .before .before))
@@ -51,7 +66,7 @@ slice-aggregate-shelve c = sym (size (c .before .before .before))
 shelve-requires : tie.Need-shelve-requires
 shelve-requires c κs =
     let told = c .before .before .before in
-    rw (size told) (told .before .before .before .before .before .before .before .before .pre)
+    rw (size told) (told .before .before .before .before .before .before .before .before .pre .0)
 
 returns-2 : tie.Need-returns-2
 returns-2 c =
@@ -62,7 +77,7 @@ pub offer-spec : {M : Type 1} → statement M
 offer-spec =
     tie.close
     (tie.spec
-    (λ c κs. search needs)
+    check-strand-requires
     (λ c. search needs)
     (λ c. search needs)
     (λ c κs. search needs)

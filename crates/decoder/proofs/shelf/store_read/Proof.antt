@@ -47,7 +47,8 @@ count-fits-requires c κs = legal (c .before .before) .legal .sizes .l-most
 offer-requires : tie.Need-offer-requires
 offer-requires c κs =
     let fits = c .before .before in
-    record { short = legal (fits .before .before .before) .legal .sizes .l-most; fits = leb-true _ _ (sym (fits .count-fits .ensures) ∙ c .before .if1 .taken) }
+    let card = legal (fits .before .before .before) in
+    (record { short = card .legal .sizes .l-most; fits = leb-true _ _ (sym (fits .count-fits .ensures) ∙ c .before .if1 .taken) }, card .unrefused)
 
 returns-2 : tie.Need-returns-2
 returns-2 c =

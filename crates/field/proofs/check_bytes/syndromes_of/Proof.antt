@@ -1,51 +1,18 @@
--- `syndromes_of` meets its contract. The invariant: what is left of the word takes the sums to the syndromes. Assumes nothing.
-use mathlib.Core.Path.{_≡_, sym, ap, _∙_}
-use mathlib.Core.List.{List, foldl}
-use Prim.Native.Nat.{ℕ, _+_, _-_, _≤_, zero-le}
-use native.Mathlib.Omega.{arith}
-use lib.ListN.{length, drop}
-use Rattle.field.specs.CheckBytes.{syndromes}
-use Rattle.field.specs.Loops.{sumsAfter}
-use Rattle.field.proofs.Fold.{fold-next, fold-end}
-use Rattle.field.proofs.Syndromes.{syndromes-fold}
+-- `syndromes_of` meets its contract: R is 2 or 4. Assumes nothing.
+use mathlib.Core.Path.{_≡_}
+use mathlib.Core.Logic.{⊎-elim}
 use borrow.Author.Needs.{needs}
 use Rattle.field.proofs.check_bytes.syndromes_of.Statement.{statement}
 use Rattle.field.proofs.check_bytes.syndromes_of.Tie as tie
 
-abbrev Inv-loop : tie.InvT-loop
-Inv-loop r word sums₀ j₀ sums j = (j ≤ length word) × (foldl (sumsAfter r) sums (drop j word) ≡ syndromes r word)
+returns : tie.Need-returns
+returns c = rw (c .before .if1 .taken) (c .syndromes-two .ensures)
 
-abbrev μ-loop : tie.MeasureT-loop
-μ-loop r word sums₀ j₀ sums j = length word - j
-
-loop-holds : tie.Need-loop-holds Inv-loop μ-loop
-loop-holds c = (zero-le, syndromes-fold (c .before .args .r) (c .before .args .word .now))
-
-loop-again : tie.Need-loop-again Inv-loop μ-loop
-loop-again c =
-    let a = c .before .before .before .before .before .args in
-    let l = c .before .before .before .loop in (
-      omega arith,
-      ap (λ (s : List ℕ). foldl (sumsAfter (a .r)) s (drop (l .j + 1) (a .word .now))) (c .absorb .ensures)
-          ∙ fold-next (sumsAfter (a .r)) (l .sums) 0 (l .j) (a .word .now) (omega arith) ∙ l .inv .1,
-    )
-
-returns : tie.Need-returns Inv-loop μ-loop
-returns c =
-    let a = c .before .before .before .args in
-    let l = c .before .loop in
-    sym (fold-end (sumsAfter (a .r)) (l .sums) (l .j) (a .word .now) (omega arith)) ∙ l .inv .1
+returns-2 : tie.Need-returns-2
+returns-2 c =
+    let s = c .before .before .before in
+    let n : s .args .r ≡ 4 = ⊎-elim (λ h. absurd (c .before .if1 .left h)) (λ h. h) (s .pre) in
+    rw n (c .syndromes-four .ensures)
 
 pub syndromes-of-spec : {M : Type 1} → statement M
-syndromes-of-spec =
-    tie.close
-    (tie.spec
-    Inv-loop
-    μ-loop
-    loop-holds
-    (λ c. search needs)
-    (λ c κs. search needs)
-    (λ c. search needs)
-    (λ c. search needs)
-    loop-again
-    returns)
+syndromes-of-spec = tie.close (tie.spec (λ c κs. search needs) returns (λ c κs. search needs) returns-2)

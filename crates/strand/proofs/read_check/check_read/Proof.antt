@@ -1,16 +1,15 @@
 -- `check_read` meets its contract: a card that the questions 2 to 4 refuse, or the rest of the questions. Assumes nothing.
-use mathlib.Core.Path.{refl}
 use Rattle.droplet.proofs.CardAnswers.{passed, stopped}
 use Rattle.strand.proofs.ReadingCases.{case-card, case-letters}
 use borrow.Author.Needs.{needs}
 use Rattle.strand.proofs.read_check.check_read.Statement.{statement}
 use Rattle.strand.proofs.read_check.check_read.Tie as tie
 
-check-length-requires : tie.Need-check-length-requires
-check-length-requires c κs =
-    let s = c .before .before .before .before .before .before in
-    let p = passed (s .args .card) (s .args .weights .now) (c .before .before .before .check-plan .ensures) (c .before .enum-told .given .1) in
-    (record { l-most = p .legal .sizes .l-most; check-count = p .legal .sizes .check-count }, refl)
+check-strand-requires : tie.Need-check-strand-requires
+check-strand-requires c κs =
+    let s = c .before .before .before .before .before in
+    let p = passed (s .args .card) (s .args .weights .now) (c .before .before .check-plan .ensures) (c .enum-told .given .1) in
+    record { l-most = p .legal .sizes .l-most; check-count = p .legal .sizes .check-count }
 
 returns : tie.Need-returns
 returns c =
@@ -21,10 +20,10 @@ returns c =
 
 returns-2 : tie.Need-returns-2
 returns-2 c =
-    let q = c .before .before .before .before .before in
+    let q = c .before .before .before in
     let a = q .before .before .before .args in
-    let p = passed (a .card) (a .weights .now) (q .check-plan .ensures) (c .before .before .before .enum-told .given .1) in
-    rw (case-letters (a .card) (a .weights .now) (a .read .now) (p .unrefused)) (c .before .check-length .ensures)
+    let p = passed (a .card) (a .weights .now) (q .check-plan .ensures) (c .before .enum-told .given .1) in
+    rw (case-letters (a .card) (a .weights .now) (a .read .now) (p .unrefused)) (c .check-strand .ensures)
 
 pub check-read-spec : {M : Type 1} → statement M
 check-read-spec =
@@ -34,7 +33,6 @@ check-read-spec =
     (λ c. search needs)
     (λ c κs. search needs)
     (λ c. search needs)
-    (λ c. search needs)
-    check-length-requires
+    check-strand-requires
     returns
     returns-2)

@@ -1,7 +1,7 @@
 -- `measure_of` meets its contract. The invariant: what is left of the word takes the runs to the longest run, and the count to
 -- that of all C and G. Assumes nothing.
-use mathlib.Core.Path.{_≡_, refl, sym, ap, _∙_}
-use mathlib.Core.List.{List, [], foldl}
+use mathlib.Core.Path.{_≡_, refl}
+use mathlib.Core.List.{List, foldl}
 use Prim.Native.Nat.{ℕ, _+_, _-_, _*_, _<_, _≤_, zero-le}
 use native.Mathlib.Nat.{add-assoc, add-zero, zero-add}
 use native.Mathlib.Numerals.{add-one}
@@ -11,7 +11,7 @@ use lib.Seq.{drop-cons}
 use Rattle.strand.specs.declared.screen.Runs.{Runs}
 use Rattle.strand.specs.Letters.{byteBases, wordBases}
 use Rattle.strand.specs.Screen.{longestRun, gcCount, byteGc}
-use Rattle.strand.specs.Loops.{runsAfter}
+use Rattle.strand.specs.Loops.{tableOf, gcTable, runsTable, runsAfter}
 use Rattle.strand.proofs.Screening.{byte-run-grows, longest-run, runs-cons, byte-gc-most, gc-cons}
 use borrow.Author.Needs.{needs}
 use Rattle.strand.proofs.screen.measure_of.Statement.{statement}
@@ -25,10 +25,10 @@ record Stands (word : List ℕ) (runs : Runs) (gc i : ℕ) : Type 0 where
   counts-on : gc + gcCount (wordBases (drop i word)) ≡ gcCount (wordBases word)
 
 abbrev Inv-loop : tie.InvT-loop
-Inv-loop word runs₀ gc₀ i₀ runs gc i = Stands word runs gc i
+Inv-loop word runs-table gc-table runs₀ gc₀ i₀ runs gc i = Stands word runs gc i
 
 abbrev μ-loop : tie.MeasureT-loop
-μ-loop word runs₀ gc₀ i₀ runs gc i = length word - i
+μ-loop word runs-table gc-table runs₀ gc₀ i₀ runs gc i = length word - i
 
 module _ (word : List ℕ) (runs : Runs) (gc i : ℕ) (now : Stands word runs gc i) where
   turned : (next : Runs) (g : ℕ) → i < length word → next ≡ foldl runsAfter runs (byteBases (getD word i 0))
@@ -60,12 +60,20 @@ loop-holds c =
       counts-on = zero-add _;
     }
 
+add-byte-requires : tie.Need-add-byte-requires Inv-loop μ-loop
+unfolding runsTable tableOf
+add-byte-requires c κs = (refl, omega (arith, c .before .before .before .loop .inv .short))
+
+gc-of-requires : tie.Need-gc-of-requires Inv-loop μ-loop
+unfolding gcTable tableOf byteGc gcCount byteBases
+gc-of-requires c κs = refl
+
 loop-again : tie.Need-loop-again Inv-loop μ-loop
 loop-again c =
-    let a = c .before .before .before .before .before .before .args in
-    let l = c .before .before .before .before .loop in
-    turned (a .word .now) (l .runs) (l .gc) (l .i) (l .inv) (c .before .add-byte .result) (c .gc-of .result) (omega arith)
-    (c .before .add-byte .ensures) (c .gc-of .ensures)
+    let l = c .before .before .before .before .before .before .loop in
+    let a = c .before .before .before .before .before .before .before .before .args in
+    turned (a .word .now) (l .runs) (l .gc) (l .i) (l .inv) (c .before .before .add-byte .result) (c .gc-of .result) (omega arith)
+    (c .before .before .add-byte .ensures) (c .gc-of .ensures)
 
 returns : tie.Need-returns Inv-loop μ-loop
 returns c =
@@ -80,8 +88,8 @@ measure-of-spec =
     μ-loop
     loop-holds
     (λ c. search needs)
-    (λ c κs. search needs)
-    (λ c κs. search needs)
+    add-byte-requires
+    gc-of-requires
     (λ c. search needs)
     (λ c. search needs)
     (λ c. search needs)

@@ -1,0 +1,482 @@
+//! The proved archives beside a tuned implementation in Rust: document 001's job, the limits job, and how each phase grows with K.
+//! Both sides are handed the same buffers, and every answer and every byte that they leave is compared before a time is printed.
+mod archive;
+mod tuned;
+
+use tuned::Card;
+
+/// The processor time of this thread in seconds: other work on the machine does not count.
+fn clock() -> f64 {
+    extern "C" {
+        fn clock_gettime(clock: i32, time: *mut [i64; 2]) -> i32;
+    }
+    const THREAD_CPUTIME: i32 = 3;
+    let mut time = [0; 2];
+    assert_eq!(unsafe { clock_gettime(THREAD_CPUTIME, &mut time) }, 0);
+    time[0] as f64 + time[1] as f64 * 1e-9
+}
+
+/// A small generator for the bench's own inputs (it is none of document 01's).
+struct Random(u64);
+
+impl Random {
+    fn next(&mut self) -> u64 {
+        self.0 ^= self.0 << 13;
+        self.0 ^= self.0 >> 7;
+        self.0 ^= self.0 << 17;
+        self.0.wrapping_mul(0x2545_F491_4F6C_DD1D)
+    }
+    fn below(&mut self, n: usize) -> usize {
+        ((self.next() >> 32) as usize * n) >> 32
+    }
+}
+
+/// The robust soliton weights of document 001 (c 0.025, delta 0.001), cut off after `most` degrees.
+fn soliton(k: usize, most: usize) -> Vec<u8> {
+    let (c, delta, kf) = (0.025, 0.001, k as f64);
+    let s = c * (kf / delta).ln() * kf.sqrt();
+    let spike = (kf / s).round() as usize;
+    let mut p: Vec<f64> = Vec::new();
+    for d in 1..=most.min(k) {
+        let df = d as f64;
+        let rho = if d == 1 {
+            1.0 / kf
+        } else {
+            1.0 / (df * (df - 1.0))
+        };
+        let tau = if d < spike {
+            s / (kf * df)
+        } else if d == spike {
+            s * (s / delta).ln() / kf
+        } else {
+            0.0
+        };
+        p.push(rho + tau);
+    }
+    let total: f64 = p.iter().sum();
+    p.iter()
+        .flat_map(|x| ((x / total * 4.0e9) as u32).to_be_bytes())
+        .collect()
+}
+
+struct Job {
+    name: String,
+    card: Card,
+    strands: u32,
+    reads: usize,
+    /// How many records the shelf holds before the timed shelving calls.
+    shelved_first: usize,
+    rounds: usize,
+    shelvings: usize,
+}
+
+struct Line {
+    phase: &'static str,
+    what: String,
+    proved: f64,
+    rust: f64,
+}
+
+/// The best of some rounds for each side, taken in turns: at least `rounds`, and more where they are short.
+fn race(rounds: usize, mut proved: impl FnMut(), mut rust: impl FnMut()) -> (f64, f64) {
+    let (mut a, mut b) = (f64::MAX, f64::MAX);
+    let (start, mut round) = (clock(), 0);
+    while round < rounds || (round < 40 * rounds && clock() - start < 1.0) {
+        let t = clock();
+        proved();
+        a = a.min(clock() - t);
+        let t = clock();
+        rust();
+        b = b.min(clock() - t);
+        round += 1;
+    }
+    (a, b)
+}
+
+/// Reads of random strands; about one in ten is damaged: letters changed, an N, a letter lost or one too many.
+fn damaged_reads(
+    text: &[u8],
+    line: usize,
+    strands: usize,
+    reads: usize,
+    random: &mut Random,
+) -> Vec<Vec<u8>> {
+    let mut all = Vec::with_capacity(reads);
+    for _ in 0..reads {
+        let i = random.below(strands);
+        let mut read = text[i * line..i * line + line - 1].to_vec();
+        for letter in read.iter_mut() {
+            if random.below(2000) == 0 {
+                *letter = b"ACGT"[random.below(4)];
+            }
+        }
+        match random.below(100) {
+            0 => {
+                let place = random.below(read.len());
+                read[place] = b'N';
+            }
+            1 => {
+                read.pop();
+            }
+            2 => read.push(b'A'),
+            _ => {}
+        }
+        all.push(read);
+    }
+    all
+}
+
+type Store = fn(Card, &[u8], &mut [u8], usize, &[u8], &mut [u64; 2]) -> u32;
+
+fn shelve_all(
+    store: Store,
+    card: Card,
+    weights: &[u8],
+    shelf: &mut [u8],
+    count: usize,
+    reads: &[Vec<u8>],
+) -> (usize, [usize; 32]) {
+    let (mut count, mut answers, mut answer) = (count, [0; 32], [0; 2]);
+    for read in reads {
+        let n = store(card, weights, shelf, count, read, &mut answer) as usize;
+        if n == 0 {
+            count = answer[1] as usize;
+            answers[answer[0] as usize] += 1;
+        } else {
+            answers[n] += 1;
+        }
+    }
+    (count, answers)
+}
+
+fn run(job: &Job) -> Vec<Line> {
+    let card = job.card;
+    let l = card.l as usize;
+    let k = (card.f as usize).div_ceil(l);
+    let weights = soliton(k, 1024);
+    let line = 4 * (4 + l + card.r as usize) + 1;
+    let strands = job.strands as usize;
+    let mut random = Random(88_172_645_463_325_252);
+    let file: Vec<u8> = (0..card.f).map(|_| random.next() as u8).collect();
+    let mut lines = Vec::new();
+
+    // write
+    let (mut out_a, mut out_b) = (
+        vec![b'?'; strands * line + 8],
+        vec![b'?'; strands * line + 8],
+    );
+    let (mut list_a, mut list_b) = (vec![0u32; 1024], vec![0u32; 1024]);
+    let (mut a, mut b) = ([9; 4], [9; 4]);
+    let (proved, rust) = race(
+        job.rounds,
+        || {
+            assert_eq!(
+                archive::write(
+                    card,
+                    &weights,
+                    &file,
+                    1,
+                    job.strands,
+                    u32::MAX,
+                    &mut out_a,
+                    &mut list_a,
+                    &mut a
+                ),
+                0
+            )
+        },
+        || {
+            assert_eq!(
+                tuned::write(
+                    card,
+                    &weights,
+                    &file,
+                    1,
+                    job.strands,
+                    u32::MAX,
+                    &mut out_b,
+                    &mut list_b,
+                    &mut b
+                ),
+                0
+            )
+        },
+    );
+    assert!(a == b && out_a == out_b, "the strands differ");
+    lines.push(Line {
+        phase: "write",
+        what: format!("{} strands of {} seeds", a[1], a[2]),
+        proved,
+        rust,
+    });
+
+    // check
+    let reads = damaged_reads(&out_a, line, strands, job.reads, &mut random);
+    let (mut droplet_a, mut droplet_b) = (vec![0u8; 72], vec![0u8; 72]);
+    for read in &reads {
+        let n = archive::check_read(card, &weights, read, &mut droplet_a);
+        assert!(
+            n == tuned::check_read(card, &weights, read, &mut droplet_b) && droplet_a == droplet_b,
+            "the checks differ"
+        );
+    }
+    let (mut legal_a, mut legal_b) = (0, 0);
+    let (proved, rust) = race(
+        job.rounds,
+        || {
+            legal_a = reads
+                .iter()
+                .filter(|read| archive::check_read(card, &weights, read, &mut droplet_a) == 0)
+                .count()
+        },
+        || {
+            legal_b = reads
+                .iter()
+                .filter(|read| tuned::check_read(card, &weights, read, &mut droplet_b) == 0)
+                .count()
+        },
+    );
+    assert_eq!(legal_a, legal_b);
+    lines.push(Line {
+        phase: "check",
+        what: format!("{} reads, {legal_a} legal", reads.len()),
+        proved,
+        rust,
+    });
+
+    // shelve
+    let size = 4 + l;
+    let mut filled = vec![0xEE; (strands + 1) * size + 5];
+    for i in 0..job.shelved_first {
+        assert_eq!(
+            archive::check_read(
+                card,
+                &weights,
+                &out_a[i * line..i * line + line - 1],
+                &mut droplet_a
+            ),
+            0
+        );
+        filled[i * size..(i + 1) * size].copy_from_slice(&droplet_a[..size]);
+    }
+    let (mut shelf_a, mut shelf_b) = (filled.clone(), filled.clone());
+    let (mut end_a, mut end_b) = ((0, [0; 32]), (0, [0; 32]));
+    let (proved, rust) = race(
+        job.shelvings,
+        || {
+            shelf_a.copy_from_slice(&filled);
+            end_a = shelve_all(
+                archive::store,
+                card,
+                &weights,
+                &mut shelf_a,
+                job.shelved_first,
+                &reads,
+            )
+        },
+        || {
+            shelf_b.copy_from_slice(&filled);
+            end_b = shelve_all(
+                tuned::store,
+                card,
+                &weights,
+                &mut shelf_b,
+                job.shelved_first,
+                &reads,
+            )
+        },
+    );
+    assert!(end_a == end_b && shelf_a == shelf_b, "the shelves differ");
+    let (count, answers) = end_a;
+    let from = job.shelved_first;
+    lines.push(Line {
+        phase: "shelve",
+        what: format!(
+            "{} reads, {} accepted, {} repeats, shelf {from} to {count}",
+            reads.len(),
+            answers[0],
+            answers[1]
+        ),
+        proved,
+        rust,
+    });
+
+    // restore
+    let (mut file_a, mut file_b) = (vec![0xAA; k * l + 3], vec![0xAA; k * l + 3]);
+    let (mut marks_a, mut marks_b) = (vec![7; k + 3], vec![7; k + 3]);
+    let (mut a, mut b) = ([9; 3], [9; 3]);
+    let (proved, rust) = race(
+        job.rounds,
+        || {
+            assert_eq!(
+                archive::restore(
+                    card,
+                    &weights,
+                    &shelf_a,
+                    count,
+                    &mut file_a,
+                    &mut marks_a,
+                    &mut list_a,
+                    &mut a
+                ),
+                0
+            )
+        },
+        || {
+            assert_eq!(
+                tuned::restore(
+                    card,
+                    &weights,
+                    &shelf_b,
+                    count,
+                    &mut file_b,
+                    &mut marks_b,
+                    &mut list_b,
+                    &mut b
+                ),
+                0
+            )
+        },
+    );
+    assert!(
+        a == b && file_a == file_b && marks_a == marks_b,
+        "the restored files differ"
+    );
+    if a[0] as usize == k {
+        assert!(
+            file_a[..file.len()] == file[..],
+            "the file did not come back"
+        );
+    }
+    lines.push(Line {
+        phase: "restore",
+        what: format!(
+            "{} of {k} segments of {count} records in {} sweeps",
+            a[0], a[1]
+        ),
+        proved,
+        rust,
+    });
+    lines
+}
+
+fn machine() -> String {
+    let info = std::fs::read_to_string("/proc/cpuinfo").unwrap_or_default();
+    let name = info
+        .lines()
+        .find(|l| l.starts_with("model name"))
+        .and_then(|l| l.split(": ").nth(1))
+        .unwrap_or("unknown")
+        .to_string();
+    format!(
+        "{name}, {} processors",
+        info.lines().filter(|l| l.starts_with("processor")).count()
+    )
+}
+
+fn job(
+    name: &str,
+    f: u32,
+    l: u8,
+    strands: u32,
+    reads: usize,
+    shelved_first: usize,
+    shelvings: usize,
+) -> Job {
+    let card = Card {
+        f,
+        l,
+        r: 2,
+        m: 3,
+        lo: 450,
+        hi: 550,
+    };
+    Job {
+        name: name.to_string(),
+        card,
+        strands,
+        reads,
+        shelved_first,
+        rounds: 3,
+        shelvings,
+    }
+}
+
+fn main() {
+    let only: Vec<String> = std::env::args().skip(1).collect();
+    let wanted = |word: &str| only.is_empty() || only.iter().any(|w| w == word);
+    println!("machine: {}", machine());
+    println!("times in seconds of processor time, the best of some rounds for each side, in turns; ratio: tuned Rust over proved, so 1.00 and more is at least as fast");
+    println!("shelving searches the shelf for the seed from its start, as document 01's interface asks, on both sides alike:");
+    println!("its time grows with the square of the number of records");
+    let mut jobs = Vec::new();
+    if wanted("001") {
+        jobs.push(job(
+            "document 001: 2,146,816 bytes, L 32",
+            2_146_816,
+            32,
+            72_000,
+            300_000,
+            0,
+            1,
+        ));
+    }
+    if wanted("limits") {
+        jobs.push(job(
+            "limits: 8,388,608 bytes, L 64",
+            8_388_608,
+            64,
+            140_000,
+            20_000,
+            139_000,
+            2,
+        ));
+    }
+    for job in &jobs {
+        println!("\n{}", job.name);
+        println!(
+            "{:8} {:>10} {:>10} {:>6}  of",
+            "phase", "proved", "rust", "ratio"
+        );
+        for line in run(job) {
+            println!(
+                "{:8} {:>10.4} {:>10.4} {:>6.2}  {}",
+                line.phase,
+                line.proved,
+                line.rust,
+                line.rust / line.proved,
+                line.what
+            );
+        }
+    }
+    if wanted("growth") {
+        println!("\ngrowth with K (L 32; 9/8 K strands, all on the shelf but 1,000; 4,000 reads), proved, microseconds a strand, read, read and record");
+        println!(
+            "{:>8} {:>8} {:>8} {:>8} {:>8}   ratios",
+            "K", "write", "check", "shelve", "restore"
+        );
+        for e in 10..=17 {
+            let k: u32 = 1 << e;
+            let strands = k + k / 8;
+            let lines = run(&job(
+                "",
+                k * 32,
+                32,
+                strands,
+                4_000,
+                strands as usize - 1_000,
+                2,
+            ));
+            let by = [strands, 4_000, 4_000, strands];
+            print!("{k:>8}");
+            for (line, n) in lines.iter().zip(by) {
+                print!(" {:>8.3}", line.proved / n as f64 * 1e6);
+            }
+            print!("  ");
+            for line in &lines {
+                print!(" {:.2}", line.rust / line.proved);
+            }
+            println!("   {}", lines[3].what);
+        }
+    }
+}

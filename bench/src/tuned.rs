@@ -1,0 +1,532 @@
+//! Document 01 in Rust, tuned for speed, behind the same interface as the proved archives: the same buffers, the same checks in
+//! each call, no memory of its own between calls and no allocation. It is tuned where plain code would be unfair: letters, C and
+//! G, doubling and parity by tables that are computed when it is compiled, and a bitmap for large sets.
+
+#[derive(Clone, Copy)]
+pub struct Card {
+    pub f: u32,
+    pub l: u8,
+    pub r: u8,
+    pub m: u8,
+    pub lo: u16,
+    pub hi: u16,
+}
+
+const fn double(x: u8) -> u8 {
+    (x << 1) ^ (if x >= 128 { 0x1D } else { 0 })
+}
+
+const fn table_of_letters() -> [u8; 256] {
+    let mut t = [255; 256];
+    t[b'A' as usize] = 0;
+    t[b'C' as usize] = 1;
+    t[b'G' as usize] = 2;
+    t[b'T' as usize] = 3;
+    t
+}
+
+const fn table_of_words() -> [[u8; 4]; 256] {
+    let mut t = [[0; 4]; 256];
+    let mut b = 0;
+    while b < 256 {
+        let mut k = 0;
+        while k < 4 {
+            t[b][k] = b"ACGT"[(b >> (6 - 2 * k)) & 3];
+            k += 1;
+        }
+        b += 1;
+    }
+    t
+}
+
+const fn table_of_gc() -> [u8; 256] {
+    let mut t = [0; 256];
+    let mut b = 0;
+    while b < 256 {
+        t[b] = ((b ^ (b >> 1)) & 0x55).count_ones() as u8;
+        b += 1;
+    }
+    t
+}
+
+const fn table_of_doubles() -> [u8; 256] {
+    let mut t = [0; 256];
+    let mut b = 0;
+    while b < 256 {
+        t[b] = double(b as u8);
+        b += 1;
+    }
+    t
+}
+
+// The multiples of the generator polynomial, its highest coefficient left out: f, f·3, f·2 of 1 3 2, and so on for four.
+const fn table_of_two() -> [u16; 256] {
+    let mut t = [0; 256];
+    let mut f = 0;
+    while f < 256 {
+        let one = f as u8;
+        let two = double(one);
+        t[f] = ((one ^ two) as u16) << 8 | two as u16;
+        f += 1;
+    }
+    t
+}
+
+const fn table_of_four() -> [u32; 256] {
+    let mut t = [0; 256];
+    let mut f = 0;
+    while f < 256 {
+        let a = f as u8;
+        let b = double(a);
+        let c = double(b);
+        let d = double(c);
+        let e = double(d);
+        let g = double(e);
+        let h = double(g);
+        t[f] = u32::from_be_bytes([a ^ b ^ c ^ d, b ^ c ^ e ^ g, d ^ e ^ g ^ h, h]);
+        f += 1;
+    }
+    t
+}
+
+static LETTERS: [u8; 256] = table_of_letters();
+static WORDS: [[u8; 4]; 256] = table_of_words();
+static GC: [u8; 256] = table_of_gc();
+static DOUBLES: [u8; 256] = table_of_doubles();
+static TWO: [u16; 256] = table_of_two();
+static FOUR: [u32; 256] = table_of_four();
+
+struct Plan {
+    k: u32,
+    degrees: usize,
+    sum: u32,
+}
+
+fn plan_of(card: &Card, weights: &[u8]) -> Result<Plan, u32> {
+    if card.f < 1 || card.f > 8_388_608 || card.l < 1 || card.l > 64 || (card.r != 2 && card.r != 4)
+    {
+        return Err(2);
+    }
+    let k = card.f.div_ceil(card.l as u32);
+    if k > 131_072 {
+        return Err(2);
+    }
+    if card.m < 1 || card.m > 20 || card.lo > card.hi || card.hi > 1000 {
+        return Err(3);
+    }
+    let degrees = weights.len() / 4;
+    if weights.len() % 4 != 0 || degrees < 1 || degrees > 1024.min(k as usize) {
+        return Err(4);
+    }
+    let mut sum = 0u64;
+    for w in weights.chunks_exact(4) {
+        sum += u32::from_be_bytes([w[0], w[1], w[2], w[3]]) as u64;
+    }
+    if sum < 1 || sum > u32::MAX as u64 {
+        return Err(4);
+    }
+    Ok(Plan {
+        k,
+        degrees,
+        sum: sum as u32,
+    })
+}
+
+fn word_bytes(card: &Card) -> usize {
+    4 + card.l as usize + card.r as usize
+}
+
+fn syndromes_zero(r: u8, word: &[u8]) -> bool {
+    if r == 2 {
+        let (mut a, mut b) = (0u8, 0u8);
+        for &x in word {
+            a ^= x;
+            b = DOUBLES[b as usize] ^ x;
+        }
+        return a | b == 0;
+    }
+    let (mut a, mut b, mut c, mut d) = (0u8, 0u8, 0u8, 0u8);
+    for &x in word {
+        a ^= x;
+        b = DOUBLES[b as usize] ^ x;
+        c = DOUBLES[DOUBLES[c as usize] as usize] ^ x;
+        d = DOUBLES[DOUBLES[DOUBLES[d as usize] as usize] as usize] ^ x;
+    }
+    a | b | c | d == 0
+}
+
+fn screen(card: &Card, word: &[u8]) -> bool {
+    let mut last = 4u8;
+    let (mut run, mut longest, mut gc) = (0u32, 0u32, 0u32);
+    for &b in word {
+        for base in [b >> 6, (b >> 4) & 3, (b >> 2) & 3, b & 3] {
+            run = if base == last { run + 1 } else { 1 };
+            longest = longest.max(run);
+            last = base;
+        }
+        gc += GC[b as usize] as u32;
+    }
+    let n = 4 * word.len() as u32;
+    longest <= card.m as u32 && card.lo as u32 * n <= 1000 * gc && 1000 * gc <= card.hi as u32 * n
+}
+
+/// Questions 9 to 13: the seed, with the word in the buffer.
+fn check_letters(card: &Card, read: &[u8], word: &mut [u8; 72]) -> Result<u32, u32> {
+    let size = word_bytes(card);
+    if read.len() != 4 * size {
+        return Err(9);
+    }
+    let word = &mut word[..size];
+    for (byte, four) in word.iter_mut().zip(read.chunks_exact(4)) {
+        let a = LETTERS[four[0] as usize];
+        let b = LETTERS[four[1] as usize];
+        let c = LETTERS[four[2] as usize];
+        let d = LETTERS[four[3] as usize];
+        if a | b | c | d > 3 {
+            return Err(10);
+        }
+        *byte = a << 6 | b << 4 | c << 2 | d;
+    }
+    if !syndromes_zero(card.r, word) {
+        return Err(11);
+    }
+    let seed = u32::from_be_bytes([word[0], word[1], word[2], word[3]]);
+    if seed == 0 {
+        return Err(12);
+    }
+    if !screen(card, word) {
+        return Err(13);
+    }
+    Ok(seed)
+}
+
+#[inline(never)]
+pub fn check_read(card: Card, weights: &[u8], read: &[u8], out: &mut [u8]) -> u32 {
+    if let Err(n) = plan_of(&card, weights) {
+        return n;
+    }
+    let mut word = [0; 72];
+    if let Err(n) = check_letters(&card, read, &mut word) {
+        return n;
+    }
+    let size = 4 + card.l as usize;
+    if out.len() < size {
+        return 16;
+    }
+    out[..size].copy_from_slice(&word[..size]);
+    0
+}
+
+#[inline(never)]
+pub fn store(
+    card: Card,
+    weights: &[u8],
+    shelf: &mut [u8],
+    count: usize,
+    read: &[u8],
+    answer: &mut [u64; 2],
+) -> u32 {
+    if let Err(n) = plan_of(&card, weights) {
+        return n;
+    }
+    let size = 4 + card.l as usize;
+    if count > shelf.len() / size {
+        return 14;
+    }
+    let mut word = [0; 72];
+    if let Err(n) = check_letters(&card, read, &mut word) {
+        return n;
+    }
+    let there = shelf[..count * size]
+        .chunks_exact(size)
+        .position(|record| record[..4] == word[..4]);
+    if let Some(i) = there {
+        if shelf[i * size..(i + 1) * size] != word[..size] {
+            return 15;
+        }
+        *answer = [1, count as u64];
+        return 0;
+    }
+    let at = count * size;
+    if shelf.len() - at < size {
+        return 16;
+    }
+    shelf[at..at + size].copy_from_slice(&word[..size]);
+    *answer = [0, count as u64 + 1];
+    0
+}
+
+#[derive(Clone, Copy)]
+struct Draw {
+    x: u32,
+    w: u32,
+}
+
+impl Draw {
+    #[inline(always)]
+    fn draw(&mut self) -> u32 {
+        let mut x = self.x;
+        x ^= x << 13;
+        x ^= x >> 17;
+        x ^= x << 5;
+        self.x = x;
+        self.w = self.w.wrapping_add(362_437);
+        x.wrapping_add(self.w)
+    }
+}
+
+fn degree_of(weights: &[u8], r: u32) -> usize {
+    let mut sum = 0u64;
+    let mut d = 0;
+    while sum <= r as u64 {
+        let w = &weights[4 * d..4 * d + 4];
+        sum += u32::from_be_bytes([w[0], w[1], w[2], w[3]]) as u64;
+        d += 1;
+    }
+    d
+}
+
+fn pick(mut state: Draw, k: u32, d: usize, list: &mut [u32]) {
+    let first = k - d as u32;
+    if d <= 16 {
+        for i in 0..d {
+            let j = first + i as u32;
+            let t = state.draw() % (j + 1);
+            list[i] = if list[..i].contains(&t) { j } else { t };
+        }
+        return;
+    }
+    let mut bits = [0u64; 2048];
+    for i in 0..d {
+        let j = first + i as u32;
+        let t = state.draw() % (j + 1);
+        let joined = bits[(t / 64) as usize] >> (t % 64) & 1 == 1;
+        let s = if joined { j } else { t };
+        bits[(s / 64) as usize] |= 1 << (s % 64);
+        list[i] = s;
+    }
+}
+
+#[inline(always)]
+fn xor_into(to: &mut [u8], from: &[u8]) {
+    for (a, b) in to.iter_mut().zip(from) {
+        *a ^= b;
+    }
+}
+
+fn xor_segment(payload: &mut [u8; 64], file: &[u8], l: usize, s: u32) {
+    let from = s as usize * l;
+    let to = (from + l).min(file.len());
+    if from < to {
+        xor_into(&mut payload[..l], &file[from..to]);
+    }
+}
+
+#[allow(clippy::too_many_arguments)]
+#[inline(never)]
+pub fn write(
+    card: Card,
+    weights: &[u8],
+    file: &[u8],
+    start: u32,
+    wanted: u32,
+    budget: u32,
+    out: &mut [u8],
+    list: &mut [u32],
+    answer: &mut [u64; 4],
+) -> u32 {
+    let plan = match plan_of(&card, weights) {
+        Ok(plan) => plan,
+        Err(n) => return n,
+    };
+    let (l, size) = (card.l as usize, word_bytes(&card));
+    let line = 4 * size + 1;
+    if file.len() != card.f as usize {
+        return 5;
+    }
+    if start == 0 {
+        return 6;
+    }
+    if wanted > 1_000_000 || out.len() < wanted as usize * line {
+        return 7;
+    }
+    if list.len() < plan.degrees {
+        return 8;
+    }
+    let (mut seed, mut made, mut tried, mut at) = (start, 0, 0, 0);
+    let mut word = [0u8; 72];
+    while made != wanted && tried != budget {
+        let mut state = Draw { x: seed, w: 0 };
+        let d = degree_of(weights, state.draw() % plan.sum);
+        pick(state, plan.k, d, list);
+        let mut payload = [0u8; 64];
+        for &s in &list[..d] {
+            xor_segment(&mut payload, file, l, s);
+        }
+        word[..4].copy_from_slice(&seed.to_be_bytes());
+        word[4..4 + l].copy_from_slice(&payload[..l]);
+        if card.r == 2 {
+            let mut rest = 0u16;
+            for &b in &word[..4 + l] {
+                rest = rest << 8 ^ TWO[((rest >> 8) as u8 ^ b) as usize];
+            }
+            word[4 + l..6 + l].copy_from_slice(&rest.to_be_bytes());
+        } else {
+            let mut rest = 0u32;
+            for &b in &word[..4 + l] {
+                rest = rest << 8 ^ FOUR[((rest >> 24) as u8 ^ b) as usize];
+            }
+            word[4 + l..8 + l].copy_from_slice(&rest.to_be_bytes());
+        }
+        if screen(&card, &word[..size]) {
+            let text = &mut out[at..at + line];
+            for (four, &b) in text.chunks_exact_mut(4).zip(&word[..size]) {
+                four.copy_from_slice(&WORDS[b as usize]);
+            }
+            text[line - 1] = b'\n';
+            made += 1;
+            at += line;
+        }
+        tried += 1;
+        seed = seed << 1 ^ (if seed >> 31 == 1 { 0xC5 } else { 0 });
+    }
+    *answer = [
+        (made != wanted) as u64,
+        made as u64,
+        tried as u64,
+        seed as u64,
+    ];
+    0
+}
+
+enum Unmarked {
+    None,
+    One(u32),
+    Several,
+}
+
+/// Draws a record's set and looks at the marks as it goes; it stops at the second unmarked segment. Beyond 16 segments it goes on
+/// with a bitmap.
+fn draw_record(
+    record: &[u8],
+    plan: &Plan,
+    weights: &[u8],
+    marks: &[u8],
+    list: &mut [u32],
+) -> (usize, Unmarked) {
+    let seed = u32::from_be_bytes([record[0], record[1], record[2], record[3]]);
+    let mut state = Draw { x: seed, w: 0 };
+    let d = degree_of(weights, state.draw() % plan.sum);
+    let first = plan.k - d as u32;
+    let mut found = Unmarked::None;
+    let few = d.min(16);
+    let mut i = 0;
+    while i < few {
+        let j = first + i as u32;
+        let t = state.draw() % (j + 1);
+        let s = if list[..i].contains(&t) { j } else { t };
+        list[i] = s;
+        if marks[s as usize] != 1 {
+            match found {
+                Unmarked::None => found = Unmarked::One(s),
+                _ => return (d, Unmarked::Several),
+            }
+        }
+        i += 1;
+    }
+    if i == d {
+        return (d, found);
+    }
+    let mut bits = [0u64; 2048];
+    for &s in &list[..i] {
+        bits[(s / 64) as usize] |= 1 << (s % 64);
+    }
+    while i < d {
+        let j = first + i as u32;
+        let t = state.draw() % (j + 1);
+        let joined = bits[(t / 64) as usize] >> (t % 64) & 1 == 1;
+        let s = if joined { j } else { t };
+        bits[(s / 64) as usize] |= 1 << (s % 64);
+        list[i] = s;
+        if marks[s as usize] != 1 {
+            match found {
+                Unmarked::None => found = Unmarked::One(s),
+                _ => return (d, Unmarked::Several),
+            }
+        }
+        i += 1;
+    }
+    (d, found)
+}
+
+#[allow(clippy::too_many_arguments)]
+#[inline(never)]
+pub fn restore(
+    card: Card,
+    weights: &[u8],
+    shelf: &[u8],
+    count: usize,
+    file: &mut [u8],
+    marks: &mut [u8],
+    list: &mut [u32],
+    answer: &mut [u64; 3],
+) -> u32 {
+    let plan = match plan_of(&card, weights) {
+        Ok(plan) => plan,
+        Err(n) => return n,
+    };
+    let l = card.l as usize;
+    let (k, size) = (plan.k as usize, 4 + l);
+    if count > shelf.len() / size {
+        return 14;
+    }
+    let shelf = &shelf[..count * size];
+    if shelf.chunks_exact(size).any(|r| r[..4] == [0; 4]) {
+        return 17;
+    }
+    if file.len() < k * l || marks.len() < k {
+        return 18;
+    }
+    if list.len() < plan.degrees {
+        return 8;
+    }
+    let file = &mut file[..k * l];
+    let marks = &mut marks[..k];
+    file.fill(0);
+    marks.fill(0);
+    let (mut present, mut sweeps) = (0u64, 0u64);
+    loop {
+        let mut filled = 0;
+        for record in shelf.chunks_exact(size) {
+            let (d, found) = draw_record(record, &plan, weights, marks, list);
+            let Unmarked::One(s) = found else { continue };
+            let mut payload = [0u8; 64];
+            payload[..l].copy_from_slice(&record[4..]);
+            for &t in &list[..d] {
+                if t != s {
+                    xor_segment(&mut payload, file, l, t);
+                }
+            }
+            file[s as usize * l..(s as usize + 1) * l].copy_from_slice(&payload[..l]);
+            marks[s as usize] = 1;
+            filled += 1;
+        }
+        sweeps += 1;
+        present += filled;
+        if filled == 0 {
+            break;
+        }
+    }
+    let mut contradictions = 0;
+    for record in shelf.chunks_exact(size) {
+        let (d, found) = draw_record(record, &plan, weights, marks, list);
+        let Unmarked::None = found else { continue };
+        let mut payload = [0u8; 64];
+        for &t in &list[..d] {
+            xor_segment(&mut payload, file, l, t);
+        }
+        contradictions += (payload[..l] != record[4..]) as u64;
+    }
+    *answer = [present, sweeps, contradictions];
+    0
+}
