@@ -1,7 +1,6 @@
 -- Document 01, "Bench examples": all starred lines, each part of each, as rows of one list under one proposition, over the
 -- definitions that the contracts cite. Assumes nothing.
 use mathlib.Core.Path.{_≡_, refl}
-use mathlib.Core.Bool.{Bool, true, false}
 use mathlib.Core.List.{List, [], _∷_}
 use Prim.Native.Nat.{ℕ, zero, suc}
 use lib.ListN.{replicate}
@@ -20,7 +19,7 @@ use Rattle.strand.specs.ReadCheck.{Reading, droplet, refused, sumsZero, wordRea
 use Rattle.strand.specs.Writer.{seedWord}
 use Rattle.decoder.specs.Shelf.{accepted, repeat, Kept, kept, recordFrom, records, sameBytes, findSeed, appended, compared, shelvedReading, shelving}
 use Rattle.decoder.specs.Shelf.Shelved.{refusal}
-use Rattle.decoder.specs.Restorer.{State, droplets, marked, missing, recovered, filled, filledBy, step, pass, present, peel, cleared, restoration, contradicts, contradictions, hasSeed, restoreRefusal, restored, Restoring, restoring, restore}
+use Rattle.decoder.specs.Restorer.{droplets, marked, missing, recovered, filled, filledBy, step, pass, present, peel, cleared, restoration, contradicts, contradictions, hasSeed, restoreRefusal, restored, Restoring, restoring, restore}
 
 -- card P with another m and lo, D weights of one value (P's are 2 of value 1), and file Q
 abbrev pub cardP : ℕ → ℕ → Card

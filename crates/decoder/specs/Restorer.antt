@@ -10,7 +10,6 @@ use Rattle.droplet.specs.declared.card.Card.{Card}
 use Rattle.droplet.specs.PoolCard.{segmentCount, weightCount}
 use Rattle.droplet.specs.Questions.{cardRefusal}
 use Rattle.droplet.specs.Droplet.{segmentsOf, payload}
-use Rattle.decoder.specs.declared.restorer.Sheet.{Sheet}
 use Rattle.decoder.specs.declared.restorer.RestoreAnswer.{RestoreAnswer}
 use Rattle.decoder.specs.declared.restorer.RestoreAnswer.the-variants as answer
 use Rattle.decoder.specs.Shelf.{Record, records, sameBytes, countFits}

@@ -3,12 +3,11 @@
 use mathlib.Core.Path.{_≡_}
 use mathlib.Core.Bool.{Bool, true, false, cond, _&&_}
 use mathlib.Core.List.{List, [], _∷_, _++_}
-use Prim.Native.Nat.{ℕ, zero, suc, _+_, _*_, _/_}
+use Prim.Native.Nat.{ℕ, zero, suc, _+_, _*_}
 use lib.Dec.{eqb, leb}
 use lib.ListN.{length, take, drop}
 use Rattle.field.specs.Bytes.{fromBigEndian, toBigEndian}
 use Rattle.droplet.specs.declared.card.Card.{Card}
-use Rattle.droplet.specs.PoolCard.{recordBytes}
 use Rattle.droplet.specs.Questions.{cardRefusal}
 use Rattle.strand.specs.ReadCheck.{Reading, droplet, refused, readCheck}
 use Rattle.decoder.specs.declared.shelf.StoreAnswer.{StoreAnswer}

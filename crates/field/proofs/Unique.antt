@@ -9,7 +9,7 @@ use native.Mathlib.Omega.{arith}
 use lib.Bits.{bitXor, xor-zero-r, xor-self}
 use lib.Dec.{lit<}
 use lib.ListN.{length}
-use Rattle.field.specs.Bytes.{All, AllBytes, xorLists}
+use Rattle.field.specs.Bytes.{AllBytes, xorLists}
 use Rattle.field.specs.CheckBytes.{timesPower, horner, Vanishes, parity}
 use Rattle.field.proofs.Xor.{xors, xor-zero-eq}
 use Rattle.field.proofs.ByteLists.{xorLists-length, xorLists-bytes}

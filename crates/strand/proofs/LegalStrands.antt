@@ -1,19 +1,19 @@
 -- The read check accepts exactly the strings that spell a legal strand, and gives back its seed and payload. Assumes nothing.
 use mathlib.Core.Path.{_≡_, refl, sym, ap, ap₂, _∙_, subst}
-use mathlib.Core.Bool.{Bool, true, false, cond, _&&_, false≢true}
+use mathlib.Core.Bool.{Bool, true, false, cond, false≢true}
 use mathlib.Core.List.{List, [], _∷_, _++_, append-assoc}
-use mathlib.Core.Logic.{_↔_, ⊎-elim, inl, inr}
-use Prim.Native.Nat.{ℕ, zero, suc, _+_, _*_, _^_, _<_, _≤_}
+use mathlib.Core.Logic.{inl, inr}
+use Prim.Native.Nat.{ℕ, _*_, _^_, _<_, _≤_}
 use native.Mathlib.Omega.{arith}
 use borrow.Author.Tests.{eq-eqb, ne-eqb, eqb-true, eqb-false}
 use lib.Dec.{eqb}
-use lib.ListN.{length, getD, take, drop, replicate, take-append-drop, length-drop}
-use lib.Seq.{length-take-le, drop-drop}
+use lib.ListN.{length, take, drop, replicate, take-append-drop, length-drop}
+use lib.Seq.{length-take-le}
 use Rattle.field.specs.Bytes.{IsByte, AllBytes, fromBigEndian, toBigEndian}
-use Rattle.field.specs.CheckBytes.{CheckCount, Vanishes, syndromes, parity}
+use Rattle.field.specs.CheckBytes.{Vanishes, syndromes}
 use Rattle.field.proofs.Tests.{either}
 use Rattle.field.proofs.BigEndian.{from-to, from-lt}
-use Rattle.field.proofs.ByteLists.{four, all-take, all-drop, all-append}
+use Rattle.field.proofs.ByteLists.{four, all-take, all-drop}
 use Rattle.field.proofs.Parity.{parity-vanishes}
 use Rattle.field.proofs.Unique.{parity-only}
 use Rattle.field.proofs.Syndromes.{syndromes-vanish}
@@ -21,7 +21,7 @@ use Rattle.droplet.specs.declared.card.Card.{Card}
 use Rattle.droplet.specs.PoolCard.{strandBytes, strandBases}
 use Rattle.droplet.specs.Questions.{cardRefusal}
 use Rattle.droplet.proofs.LegalCard.{legal, checks-bounds}
-use Rattle.strand.specs.Letters.{allLetters, wordLetters, lettersWord}
+use Rattle.strand.specs.Letters.{allLetters, lettersWord}
 use Rattle.strand.specs.Screen.{screenPasses}
 use Rattle.strand.specs.ReadCheck.{Reading, droplet, refused, wordSeed, wordPayload, allZero, sumsZero, wordReading, lettersReading, readCheck, strandWord}
 use Rattle.strand.specs.LegalStrand.{Spells, AcceptsExactly}

@@ -1,6 +1,6 @@
 -- The screen's measure, base by base and byte by byte: a run grows by one at a base, and the longest run and the count of C and
 -- G of a word are folds over its bytes. Assumes nothing.
-use mathlib.Core.Path.{_≡_, refl, sym, ap, _∙_}
+use mathlib.Core.Path.{_≡_, refl, sym, _∙_}
 use mathlib.Core.Bool.{Bool, true, false, cond}
 use mathlib.Core.List.{List, [], _∷_, _++_, foldl}
 use Prim.Native.Nat.{ℕ, suc, _+_, _/_, _%_, _≤_, zero-le}

@@ -1,16 +1,14 @@
 -- Bytes and letters: a word and its letters give each other back, and a word has four letters to a byte. Assumes nothing.
-use mathlib.Core.Path.{_≡_, refl, sym, ap, ap₂, _∙_}
+use mathlib.Core.Path.{_≡_, refl, sym, ap, ap₂}
 use mathlib.Core.Bool.{Bool, true, false, cond, _&&_}
-use mathlib.Core.List.{List, [], _∷_, _++_}
+use mathlib.Core.List.{List, [], _∷_}
 use Prim.Native.Nat.{ℕ, zero, suc, _+_, _*_, _/_, _%_, _^_, _<_}
 use native.Mathlib.Nat.{mod-lt, zero-lt-suc}
 use native.Mathlib.Omega.{arith}
 use borrow.Author.Tests.{eqb-true}
 use lib.Dec.{eqb, lit<}
-use lib.ListN.{length, getD, length-append}
+use lib.ListN.{length, getD}
 use Rattle.field.specs.Bytes.{AllBytes}
-use Rattle.field.proofs.Tests.{either}
-use Rattle.strand.specs.declared.letters.Letter.{Letter}
 use Rattle.strand.specs.declared.letters.Letter.the-variants.{Bits, Other}
 use Rattle.strand.specs.Letters.{letterOf, letterBits, isBits, bitsOr0, allLetters, byteBases, wordBases, byteLetters, wordLetters, lettersByte, lettersWord}
 

@@ -1,8 +1,8 @@
 -- The word of a strand: its length, that it consists of bytes, and its parts. Assumes nothing.
-use mathlib.Core.Path.{_≡_, refl, sym, ap, ap₂, _∙_}
+use mathlib.Core.Path.{_≡_, ap₂, _∙_}
 use mathlib.Core.List.{List, _++_, append-assoc}
 use Prim.Native.Nat.{ℕ, _+_, _^_, _<_}
-use lib.ListN.{length, take, drop, length-append}
+use lib.ListN.{length, length-append}
 use lib.Seq.{take-at, drop-at}
 use Rattle.field.specs.Bytes.{IsByte, AllBytes, toBigEndian}
 use Rattle.field.specs.CheckBytes.{parity}

@@ -1,6 +1,6 @@
 -- `read_letters` meets its contract. The invariant: all that was read so far are letters, and what is written, with the word
 -- that the rest spells, is the word of the read. Assumes nothing.
-use mathlib.Core.Path.{_≡_, refl, sym, ap, _∙_}
+use mathlib.Core.Path.{_≡_, refl, sym, _∙_}
 use mathlib.Core.Bool.{Bool, true, false, _&&_}
 use mathlib.Core.List.{List, [], _∷_, _++_, append-assoc, append-nil}
 use mathlib.Core.Logic.{inl, inr}

@@ -1,9 +1,8 @@
 -- `check_length` meets its contract: a strand's length in bases is four times that in bytes. Assumes nothing.
-use mathlib.Core.Path.{_≡_, sym, ap, _∙_}
-use mathlib.Core.List.{List}
+use mathlib.Core.Path.{_≡_, sym, _∙_}
 use Prim.Native.Nat.{ℕ, _*_, _≤_}
 use native.Mathlib.Omega.{arith}
-use lib.ListN.{length, take}
+use lib.ListN.{length}
 use lib.Seq.{length-take-le}
 use Rattle.droplet.specs.declared.card.Card.{Card}
 use Rattle.droplet.specs.declared.card.Bases.{Bases}

@@ -1,5 +1,5 @@
 -- `pad` meets its contract: a payload copied over 64 zeros. Assumes nothing.
-use mathlib.Core.Path.{_≡_, refl, ap, _∙_}
+use mathlib.Core.Path.{_≡_, _∙_}
 use mathlib.Core.List.{List, _++_}
 use Prim.Native.Nat.{ℕ, zero, suc, _-_}
 use native.Mathlib.Nat.{sub-zero, suc-sub-suc, zero-sub}
