@@ -48,8 +48,8 @@ pub fn count_fits(shelf: &[u8], l: usize, count: usize) -> bool
     count <= shelf.len() / (4 + l)
 }
 
-// The first record of a seed. This is the longest loop of a store call: it looks at the seeds alone, and keeps the place of the
-// record instead of computing it from the number.
+// The first record of a seed. This is the longest loop of a store call: it looks at the seeds alone, two records a turn, and keeps
+// the place of the record instead of computing it from the number.
 fn find_seed(shelf: &[u8], l: usize, count: usize, seed: u32) -> Place
     requires { ⌜ Within l count (now shelf) ⌝ }
     ensures { λ r. ⌜ Sought l count (now (shelf .entry)) seed r ⌝ }
@@ -57,12 +57,21 @@ fn find_seed(shelf: &[u8], l: usize, count: usize, seed: u32) -> Place
     let width = 4 + l;
     let mut left = count;
     let mut at = 0;
-    while 0 < left {
+    while 1 < left {
         if records::seed_of(&shelf[at..]) == seed {
             return Place::At(at);
         }
-        at += width;
-        left -= 1;
+        let next = at + width;
+        if records::seed_of(&shelf[next..]) == seed {
+            return Place::At(next);
+        }
+        at = next + width;
+        left -= 2;
+    }
+    if left == 1 {
+        if records::seed_of(&shelf[at..]) == seed {
+            return Place::At(at);
+        }
     }
     Place::Nowhere
 }

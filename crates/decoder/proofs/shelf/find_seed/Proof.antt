@@ -49,30 +49,88 @@ Inv-loop shelf l count seed width left₀ at₀ left at =
 abbrev μ-loop : tie.MeasureT-loop
 μ-loop shelf l count seed width left₀ at₀ left at = left
 
-this-turn : (c : tie.In-loop Inv-loop μ-loop) → (let args = c .before .before .before .args in
+-- the two turns in a turn of the loop, and the last one
+first : (c : tie.In-loop Inv-loop μ-loop) → (let args = c .before .before .before .args in
     Turn (args .l) (args .seed) (args .shelf .now) (c .before .loop .at) (c .before .loop .left) (c .before .loop .left - 1))
-this-turn c = turn _ _ _ _ (c .before .loop .left) _ (omega arith) (c .before .loop .inv .0)
+first c = turn _ _ _ _ (c .before .loop .left) _ (omega arith) (c .before .loop .inv .0)
+
+second : (c : tie.In-loop Inv-loop μ-loop) → (let args = c .before .before .before .args in
+    Turn (args .l) (args .seed) (args .shelf .now) (c .before .loop .at + (4 + args .l)) (c .before .loop .left - 1) (c .before .loop .left - 2))
+second c = turn _ _ _ _ (c .before .loop .left - 1) _ (omega arith) (first c .rest)
+
+last : (c : tie.Then3 Inv-loop μ-loop) → (let loop = c .before .before in
+    let args = loop .before .before .args in
+    Turn (args .l) (args .seed) (args .shelf .now) (loop .loop .at) (loop .loop .left) 0)
+last c = turn _ _ _ _ (c .before .before .loop .left) _ (omega arith) (c .before .before .loop .inv .0)
+
+-- the first record was not of the seed
+missed : (c : tie.Else1 Inv-loop μ-loop) → (let now = c .before .before .before in
+    let args = now .before .before .before .args in
+    sought (args .l) (args .seed) (args .shelf .now) (now .before .loop .at + (4 + args .l)) (now .before .loop .left - 1)
+    ≡ sought (args .l) (args .seed) (args .shelf .now) 0 (args .count))
+missed c =
+    let now = c .before .before .before in
+    let seed = rw rest-whole at (c .before .seed-of .ensures) in
+    first now .miss (λ e. c .if1 .left (seed ∙ e)) ∙ now .before .loop .inv .1
 
 loop-holds : tie.Need-loop-holds Inv-loop μ-loop
 loop-holds c = (omega arith, refl)
 
 part-seed-of-start : tie.Need-part-seed-of-start Inv-loop μ-loop
-part-seed-of-start c = let within = this-turn c .within in search needs
+part-seed-of-start c = let within = first c .within in search needs
 
 returns : tie.Need-returns Inv-loop μ-loop
 returns c =
     let now = c .before .before .before in
     let seed = rw rest-whole at (c .before .seed-of .ensures) in
-    (this-turn now .within, sym (now .before .loop .inv .1) ∙ this-turn now .hit (sym seed ∙ c .if1 .taken))
+    (first now .within, sym (now .before .loop .inv .1) ∙ first now .hit (sym seed ∙ c .if1 .taken))
+
+add-next : tie.Need-add-next Inv-loop μ-loop
+add-next c = let within = first (c .before .before .before) .within in search needs
+
+sub-seed-of-2 : tie.Need-sub-seed-of-2 Inv-loop μ-loop
+sub-seed-of-2 c = let within = first (c .before .before .before) .within in search needs
+
+part-seed-of-start-2 : tie.Need-part-seed-of-start-2 Inv-loop μ-loop
+part-seed-of-start-2 c = let within = second (c .before .before .before) .within in search needs
+
+seed-of-requires-2 : tie.Need-seed-of-requires-2 Inv-loop μ-loop
+seed-of-requires-2 c κs = let within = second (c .before .before .before .before) .within in search needs
+
+returns-2 : tie.Need-returns-2 Inv-loop μ-loop
+returns-2 c =
+    let here = c .before .before .before in
+    let now = here .before .before .before in
+    let seed = rw rest-whole at (c .before .seed-of2 .ensures) in
+    (second now .within, sym (missed here) ∙ second now .hit (sym seed ∙ c .if2 .taken))
+
+add-at : tie.Need-add-at Inv-loop μ-loop
+add-at c = let within = second (c .before .before .before .before .before .before) .within in search needs
 
 loop-again : tie.Need-loop-again Inv-loop μ-loop
 loop-again c =
-    let now = c .before .before .before in
-    let seed = rw rest-whole at (c .before .seed-of .ensures) in
-    (this-turn now .rest, this-turn now .miss (λ e. c .if1 .left (seed ∙ e)) ∙ now .before .loop .inv .1)
+    let here = c .before .before .before in
+    let now = here .before .before .before in
+    let seed = rw rest-whole at (c .before .seed-of2 .ensures) in
+    (second now .rest, second now .miss (λ e. c .if2 .left (seed ∙ e)) ∙ missed here)
 
-returns-2 : tie.Need-returns-2 Inv-loop μ-loop
-returns-2 c = sym (c .before .loop .inv .1) ∙ none _ _ (c .before .loop .left) _ (omega arith)
+part-seed-of-start-3 : tie.Need-part-seed-of-start-3 Inv-loop μ-loop
+part-seed-of-start-3 c = let within = last c .within in search needs
+
+returns-3 : tie.Need-returns-3 Inv-loop μ-loop
+returns-3 c =
+    let now = c .before .before .before in
+    let seed = rw rest-whole at (c .before .seed-of3 .ensures) in
+    (last now .within, sym (now .before .before .loop .inv .1) ∙ last now .hit (sym seed ∙ c .if4 .taken))
+
+returns-4 : tie.Need-returns-4 Inv-loop μ-loop
+returns-4 c =
+    let now = c .before .before .before in
+    let seed = rw rest-whole at (c .before .seed-of3 .ensures) in
+    sym (now .before .before .loop .inv .1) ∙ sym (last now .miss (λ e. c .if4 .left (seed ∙ e))) ∙ none _ _ 0 _ refl
+
+returns-5 : tie.Need-returns-5 Inv-loop μ-loop
+returns-5 c = sym (c .before .before .loop .inv .1) ∙ none _ _ (c .before .before .loop .left) _ (omega arith)
 
 pub find-seed-spec : {M : Type 1} → statement M
 find-seed-spec =
@@ -87,8 +145,20 @@ find-seed-spec =
     (λ c. search needs)
     (λ c κs. search needs)
     returns
+    add-next
+    sub-seed-of-2
+    part-seed-of-start-2
     (λ c. search needs)
+    seed-of-requires-2
+    returns-2
+    add-at
     (λ c. search needs)
     (λ c. search needs)
     loop-again
-    returns-2)
+    (λ c. search needs)
+    part-seed-of-start-3
+    (λ c. search needs)
+    (λ c κs. search needs)
+    returns-3
+    returns-4
+    returns-5)
