@@ -22,6 +22,7 @@ use droplet::droplet::payload_of;
 use droplet::droplet::xor_into;
 use droplet::droplet::xor_segment;
 use field::generator::Draw;
+use strand::records::copy;
 use strand::records::seed_of;
 
 // What a restore found: segments present, passes over the records, and records that contradict the segments.
@@ -195,18 +196,6 @@ fn xor_marked(stored: &[u8], l: usize, list: &[u32], file: &[u8], marks: &[u8]) 
     p
 }
 
-// `part` becomes the front of `bytes`.
-fn copy_front(part: &mut [u8], bytes: &[u8])
-    requires { ⌜ length (now part) ≤ length (now bytes) ⌝ }
-    ensures { λ r. ⌜ now (part .exit) ≡ take (length (now (part .entry))) (now (bytes .entry)) ⌝ }
-{
-    let mut i = 0;
-    while i < part.len() {
-        part[i] = bytes[i];
-        i += 1;
-    }
-}
-
 // Segment `s`, the one that is unmarked among those of `list`, becomes the stored payload XOR the marked ones, and is marked.
 fn fill(s: u32, stored: &[u8], l: usize, list: &[u32], file: &mut [u8], marks: &mut [u8])
     requires { ⌜ (l ≤ 64) × (length (now stored) ≡ l) × AllBelow (length (now marks)) (now list) × (s * l + l ≤ length (now file)) × (s < length (now marks)) ⌝ }
@@ -215,7 +204,7 @@ fn fill(s: u32, stored: &[u8], l: usize, list: &[u32], file: &mut [u8], marks: &
     let p = xor_marked(stored, l, list, file, marks);
     let a = (s as usize) * l;
     let e = a + l;
-    copy_front(&mut file[a..e], &p);
+    copy(&p[..l], &mut file[a..e]);
     let m = s as usize;
     marks[m] = 1;
 }
