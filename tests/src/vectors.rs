@@ -82,3 +82,18 @@ fn bench_examples() -> String {
 pub fn vectors() -> String {
     reed_solomon() + &bench_examples()
 }
+
+#[cfg(test)]
+mod tests {
+    use super::*;
+    use crate::check_bytes_letters_screen::polynomial_at_roots;
+
+    /// The words have 10 check bytes: more than this pool's codes ask of them, so that a byte noted wrongly would show.
+    #[test]
+    fn the_words_are_zero_at_all_ten_powers() {
+        for word in [bytes(ISO), bytes(WIKIVERSITY)] {
+            assert_eq!(word.len(), 26);
+            assert_eq!(polynomial_at_roots(&word, 10), vec![0; 10]);
+        }
+    }
+}
