@@ -8,67 +8,6 @@ use droplet::card::Card;
 use field::bytes::join;
 use field::check_bytes;
 
-// The words are QR code blocks of 16 data and 10 check bytes. They are 0 at a^0 .. a^9, so their first 2 and 4 check sums are 0.
-// ISO/IEC 18004, Annex I: the symbol of "01234567".
-const ISO: [u8; 26] = [
-    0x10,
-    0x20,
-    0x0C,
-    0x56,
-    0x61,
-    0x80,
-    0xEC,
-    0x11,
-    0xEC,
-    0x11,
-    0xEC,
-    0x11,
-    0xEC,
-    0x11,
-    0xEC,
-    0x11,
-    0xA5,
-    0x24,
-    0xD4,
-    0xC1,
-    0xED,
-    0x36,
-    0xC7,
-    0x87,
-    0x2C,
-    0x55,
-];
-
-// Wikiversity, "Reed-Solomon codes for coders": the encoded message of its examples.
-const WIKIVERSITY: [u8; 26] = [
-    0x40,
-    0xD2,
-    0x75,
-    0x47,
-    0x76,
-    0x17,
-    0x32,
-    0x06,
-    0x27,
-    0x26,
-    0x96,
-    0xC6,
-    0xC6,
-    0x96,
-    0x70,
-    0xEC,
-    0xBC,
-    0x2A,
-    0x90,
-    0x13,
-    0x6B,
-    0xAF,
-    0xEF,
-    0xFD,
-    0x4B,
-    0xE0,
-];
-
 // Four bytes, most significant first.
 fn print_bytes(name: &[u8], bytes: [u8; 4]) {
     io::write_all(1, name);
@@ -150,14 +89,24 @@ fn empty_shelf(weights: &[u8], buffer: &[u8]) {
     print_bytes(b"marks ", marks);
 }
 
+// QR code blocks of 16 data and 10 check bytes. They are 0 at a^0 .. a^9, so their first 2 and 4 check sums are 0. The first is
+// the symbol of "01234567" in ISO/IEC 18004, Annex I; the second the message of Wikiversity's "Reed-Solomon codes for coders",
+// which has the check sums after the loss of its first byte too.
+fn published_words() {
+    let iso =
+        b"\x10\x20\x0C\x56\x61\x80\xEC\x11\xEC\x11\xEC\x11\xEC\x11\xEC\x11\xA5\x24\xD4\xC1\xED\x36\xC7\x87\x2C\x55";
+    let whole =
+        b"\x40\xD2\x75\x47\x76\x17\x32\x06\x27\x26\x96\xC6\xC6\x96\x70\xEC\xBC\x2A\x90\x13\x6B\xAF\xEF\xFD\x4B\xE0";
+    let lost =
+        b"\x00\xD2\x75\x47\x76\x17\x32\x06\x27\x26\x96\xC6\xC6\x96\x70\xEC\xBC\x2A\x90\x13\x6B\xAF\xEF\xFD\x4B\xE0";
+    print_sums(b"ISO/IEC 18004 word", iso);
+    print_sums(b"Wikiversity word", whole);
+    print_sums(b"Wikiversity word with its first byte 0", lost);
+}
+
 fn main() {
     reed_solomon(&[1], &[0x12, 0x34, 0x56]);
-    let iso = ISO;
-    print_sums(b"ISO/IEC 18004 word", &iso);
-    let mut word = WIKIVERSITY;
-    print_sums(b"Wikiversity word", &word);
-    word[0] = 0;
-    print_sums(b"Wikiversity word with its first byte 0", &word);
+    published_words();
     let weights = [0, 0, 0, 1, 0, 0, 0, 1];
     let mut buffer = [255u8; 20];
     empty_shelf(&weights, &buffer);
