@@ -1,4 +1,4 @@
--- The C forms of the card reader, the writer, shelving and restoring: for each the number returned and the lent answer, by the
+-- The C forms of the card reader, the writer, storing and restoring: for each the number returned and the lent answer, by the
 -- cases of what the call itself answers, and with it the buffers. A refusal leaves the answer as it was. Assumes nothing.
 use mathlib.Core.Path.{_≡_}
 use mathlib.Core.Bool.{false, cond}
@@ -14,8 +14,8 @@ use Rattle.strand.specs.declared.writer.Stop.the-variants.{Done, Spent}
 use Rattle.strand.specs.declared.writer.WriteAnswer.{WriteAnswer}
 use Rattle.strand.specs.declared.writer.WriteAnswer.the-variants as writing
 use Rattle.strand.specs.Writer.{writerRefusal, writerRun, runAnswer, WriterPromise}
-use Rattle.decoder.specs.Shelf.{Shelved, shelving, keptAnswer, keptBuffer}
-use Rattle.decoder.specs.Restorer.{Restored, restore, restoreRefusal, restoringAnswer, restoringState}
+use Rattle.decoder.specs.Store.{Stored, storeRead, keptAnswer, keptBuffer}
+use Rattle.decoder.specs.Restorer.{Restored, restore, restoreRefusal, endAnswer, endState}
 
 -- the number returned, and the lent answer after it
 pub data Returned : Type 0 where
@@ -49,16 +49,16 @@ pub record WriteForm (c : Card) (weights file : List ℕ) (start wanted budget :
   pub leaves : WriterPromise c weights file start wanted budget out list
       (writerAnswer c weights file start wanted budget (length out) (length list)) out′ list′
 
--- shelving: 0 for accepted, 1 for a repeat, and the count after it
-unfoldable pub storeReturned : List ℕ → Shelved → Returned
-storeReturned answer (Shelved.accepted count) = returned 0 (0 ∷ (count ∷ []))
-storeReturned answer (Shelved.repeat count) = returned 0 (1 ∷ (count ∷ []))
-storeReturned answer (Shelved.refusal n) = returned n answer
+-- storing: 0 for accepted, 1 for a repeat, and the count after it
+unfoldable pub storeReturned : List ℕ → Stored → Returned
+storeReturned answer (Stored.accepted count) = returned 0 (0 ∷ (count ∷ []))
+storeReturned answer (Stored.repeat count) = returned 0 (1 ∷ (count ∷ []))
+storeReturned answer (Stored.refusal n) = returned n answer
 
--- shelving's C form: number and answer, and the shelf at exit
+-- storing's C form: number and answer, and the store at exit
 pub record StoreForm (c : Card) (weights buffer : List ℕ) (count : ℕ) (read answer : List ℕ) (n : ℕ) (buffer′ answer′ : List ℕ) : Type 0 where
-  pub returns : returned n answer′ ≡ storeReturned answer (keptAnswer (shelving c weights buffer count read))
-  pub leaves : buffer′ ≡ keptBuffer (shelving c weights buffer count read)
+  pub returns : returned n answer′ ≡ storeReturned answer (keptAnswer (storeRead c weights buffer count read))
+  pub leaves : buffer′ ≡ keptBuffer (storeRead c weights buffer count read)
 
 -- restoring: present, sweeps and contradictions
 unfoldable pub restoreReturned : List ℕ → Restored → Returned
@@ -68,8 +68,8 @@ restoreReturned answer (Restored.refusal n) = returned n answer
 -- restoring's C form: number and answer, file and marks at exit, and the number list, free in its first D places alone
 pub record RestoreForm (c : Card) (weights buffer : List ℕ) (count : ℕ) (file marks list answer : List ℕ) (n : ℕ)
     (file′ marks′ list′ answer′ : List ℕ) : Type 0 where
-  pub returns : returned n answer′ ≡ restoreReturned answer (restoringAnswer (restore c weights buffer count file marks (length list)))
-  pub fills : file′ ≡ restoringState (restore c weights buffer count file marks (length list)) .file
-  pub sets : marks′ ≡ restoringState (restore c weights buffer count file marks (length list)) .marks
+  pub returns : returned n answer′ ≡ restoreReturned answer (endAnswer (restore c weights buffer count file marks (length list)))
+  pub fills : file′ ≡ endState (restore c weights buffer count file marks (length list)) .file
+  pub sets : marks′ ≡ endState (restore c weights buffer count file marks (length list)) .marks
   pub keeps : drop (weightCount weights) list′ ≡ drop (weightCount weights) list
   pub untouched : eqb (restoreRefusal c weights buffer count (length file) (length marks) (length list)) 0 ≡ false → list′ ≡ list

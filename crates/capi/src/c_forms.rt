@@ -4,8 +4,8 @@ ghost use Rattle.capi.specs.CForms.{cardReturned, stopNumber, WriteForm,
 ghost use Rattle.capi.specs.CForms.Returned.{returned};
 use decoder::restorer;
 use decoder::restorer::RestoreAnswer;
-use decoder::shelf;
-use decoder::shelf::StoreAnswer;
+use decoder::store;
+use decoder::store::StoreAnswer;
 use droplet::card;
 use droplet::card::Card;
 use droplet::card::CardAnswer;
@@ -103,7 +103,7 @@ pub extern "C" fn fountain_store(
     ensures { λ n. ⌜ StoreForm (record { f = f; l = l; r = r; m = m; lo = lo; hi = hi }) (now (weights .entry)) (now (store .entry)) count (now (read .entry))
         (now (answer .entry)) n (now (store .exit)) (now (answer .exit)) ⌝ }
 {
-    match shelf::store_read(Card { f, l, r, m, lo, hi }, weights, store, count, read) {
+    match store::store_read(Card { f, l, r, m, lo, hi }, weights, store, count, read) {
         StoreAnswer::Refused(n) => n as u32,
         StoreAnswer::Accepted(after) => {
             *answer = [0, after as u64];

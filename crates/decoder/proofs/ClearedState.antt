@@ -1,4 +1,4 @@
--- What a restoration starts from: no mark is set, each segment is 0, and the buffers are long enough. Assumes nothing.
+-- What a peeling starts from: no mark is set, each segment is 0, and the buffers are long enough. Assumes nothing.
 use mathlib.Core.Path.{_≡_}
 use mathlib.Core.Bool.{false}
 use mathlib.Core.List.{List, _++_, append-assoc}
@@ -10,7 +10,7 @@ use Rattle.droplet.specs.Droplet.{segment}
 use Rattle.decoder.specs.Restorer.{Droplet, marked, present, cleared}
 use Rattle.decoder.proofs.MarkCounts.{present-none}
 use Rattle.decoder.proofs.PlacedSegment.{segment-behind}
-use Rattle.decoder.proofs.PoolShapes.{Sized, Restorable}
+use Rattle.decoder.proofs.PoolShapes.{Sized, Peelable}
 
 module _ (K L : ℕ) (file marks : List ℕ) where
   pub cleared-mark : (i : ℕ) → i < K → getD (cleared K L file marks .marks) i 0 ≡ 0
@@ -34,7 +34,7 @@ module _ (K L : ℕ) (file marks : List ℕ) where
       (segment-behind L i (replicate (i * L) 0) (replicate L 0) (replicate rest 0 ++ drop (i * L + (L + rest)) file)
       (length-replicate (i * L) 0) (length-replicate L 0))
 
-pub cleared-sized : (K L : ℕ) (ds : List Droplet) (file marks : List ℕ) → Restorable K L ds file marks → Sized K L (cleared K L file marks)
+pub cleared-sized : (K L : ℕ) (ds : List Droplet) (file marks : List ℕ) → Peelable K L ds file marks → Sized K L (cleared K L file marks)
 unfolding cleared
 cleared-sized K L ds file marks ok = record {
   marks = simp (length-append, length-replicate, length-drop) (omega arith);

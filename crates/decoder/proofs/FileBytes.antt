@@ -8,19 +8,19 @@ use lib.Seq.{take-add}
 use Rattle.field.specs.Bytes.{All, IsByte, AllBytes, padded}
 use Rattle.field.proofs.ByteLists.{all-append, all-take, zeros-bytes, xorLists-bytes, take-padded}
 use Rattle.droplet.specs.Droplet.{segment, payload}
-use Rattle.decoder.specs.Restorer.{Droplet, recovered}
-use Rattle.decoder.proofs.MissingSegments.{recovered-all}
-use Rattle.decoder.proofs.PoolShapes.{Restorable, stateAfter}
-use Rattle.decoder.proofs.Segmentwise.{restoration-each}
+use Rattle.decoder.specs.Restorer.{Droplet, known}
+use Rattle.decoder.proofs.MissingSegments.{known-all}
+use Rattle.decoder.proofs.PoolShapes.{Peelable, stateAfter}
+use Rattle.decoder.proofs.Segmentwise.{peelAll-each}
 use Rattle.decoder.proofs.PayloadParts.{payload-all-bytes}
 
-pub segments-bytes : (K L : ℕ) (ds : List Droplet) (file marks : List ℕ) → Restorable K L ds file marks → All (λ d. AllBytes (d .payload)) ds
+pub segments-bytes : (K L : ℕ) (ds : List Droplet) (file marks : List ℕ) → Peelable K L ds file marks → All (λ d. AllBytes (d .payload)) ds
     → (i : ℕ) → i < K → AllBytes (segment L (stateAfter K L ds file marks .file) i)
 segments-bytes K L ds file marks ok bytes =
-    restoration-each K L (λ i m part. AllBytes part) (λ d. AllBytes (d .payload))
-    (λ d st i fill p h. xorLists-bytes (d .payload) (payload L (st .file) (recovered (st .marks) (d .segments))) p
-    (payload-all-bytes L (st .file) (recovered (st .marks) (d .segments))
-    (recovered-all (st .marks) (λ s. s < K) (λ s. AllBytes (segment L (st .file) s)) (λ s b e. h s b) (d .segments) (fill .droplet .below))))
+    peelAll-each K L (λ i m part. AllBytes part) (λ d. AllBytes (d .payload))
+    (λ d st i fill p h. xorLists-bytes (d .payload) (payload L (st .file) (known (st .marks) (d .segments))) p
+    (payload-all-bytes L (st .file) (known (st .marks) (d .segments))
+    (known-all (st .marks) (λ s. s < K) (λ s. AllBytes (segment L (st .file) s)) (λ s b e. h s b) (d .segments) (fill .droplet .below))))
     ds file marks ok bytes (λ i b. zeros-bytes L)
 
 -- the K segments joined

@@ -1,4 +1,4 @@
--- Where every legal read is a strand of one file, so is every record on the shelf; and more legal reads leave more records.
+-- Where every legal read is a strand of one file, so is every record in the store; and more legal reads leave more records.
 -- Assumes nothing.
 use mathlib.Core.Path.{_≡_, refl, sym, ap, _∙_, subst}
 use mathlib.Core.List.{List, [], _∷_, _++_}
@@ -11,15 +11,15 @@ use Rattle.droplet.specs.declared.card.Card.{Card}
 use Rattle.droplet.specs.Questions.{cardRefusal}
 use Rattle.droplet.specs.Droplet.{payload}
 use Rattle.strand.specs.ReadCheck.{Reading, droplet, refused, readCheck}
-use Rattle.decoder.specs.Shelf.{Record, records}
+use Rattle.decoder.specs.Store.{Record, records}
 use Rattle.decoder.specs.Restorer.{droplets}
-use Rattle.decoder.specs.Demand3.{keptReading, legalReads, firstOfSeed, shelfRecords, Call, readsOf, Chained, lastBuffer, lastCount, GivesAll}
-use Rattle.decoder.specs.Vault.{Among, AllAmong, shelfAfter, dropletsOn, payloadFor, legalOf, RoomForAll, PrintedStrand, LegalPrinted, Job}
+use Rattle.decoder.specs.Demand3.{keptReading, legalReads, firstOfSeed, storedRecords, Call, readsOf, Chained, lastBuffer, lastCount, GivesAll}
+use Rattle.decoder.specs.Vault.{Among, AllAmong, storeAfter, dropletsOn, payloadFor, legalOf, RoomForAll, PrintedStrand, LegalPrinted, Job}
 use Rattle.decoder.proofs.AllOf.{all-map, all-front, all-mapped, all-among, among-all, among-mapped}
 use Rattle.decoder.proofs.RecordBytes.{IsRecord}
 use Rattle.decoder.proofs.LegalRead.{InReading, read-recordable}
-use Rattle.decoder.proofs.ShelfCall.{room, held-records, fitted}
-use Rattle.decoder.proofs.ShelfChain.{shelf-holds, chain-exists}
+use Rattle.decoder.proofs.StoreCall.{room, held-records, fitted}
+use Rattle.decoder.proofs.StoreChain.{store-holds, chain-exists}
 use Rattle.decoder.proofs.PrintedReads.{printed-legal}
 use Rattle.decoder.proofs.FirstOfSeed.{first-all, first-there}
 
@@ -60,16 +60,16 @@ module _ (c : Card) (ws : List ℕ) where
   further-reads calls calls′ more e =
       subst (λ reads. AllAmong (legalOf c ws calls) (legalReads c ws reads)) (sym e) (further (readsOf calls) more)
 
-  -- ---- the shelf
+  -- ---- the store
 
-  shelf-all : (P : Record → Type 0) (lent : List ℕ) (reads : List (List ℕ)) → All P (legalReads c ws reads) → All P (shelfRecords c ws lent reads)
-  unfolding shelfRecords
-  shelf-all P lent reads h =
+  store-all : (P : Record → Type 0) (lent : List ℕ) (reads : List (List ℕ)) → All P (legalReads c ws reads) → All P (storedRecords c ws lent reads)
+  unfolding storedRecords
+  store-all P lent reads h =
       all-front P (room (c .l) lent) (firstOfSeed [] (legalReads c ws reads)) (first-all P [] (legalReads c ws reads) h)
 
-  shelf-whole : (lent : List ℕ) (calls : List Call) → RoomForAll c ws lent calls → shelfRecords c ws lent (readsOf calls) ≡ firstOfSeed [] (legalOf c ws calls)
-  unfolding shelfRecords
-  shelf-whole lent calls fits =
+  store-whole : (lent : List ℕ) (calls : List Call) → RoomForAll c ws lent calls → storedRecords c ws lent (readsOf calls) ≡ firstOfSeed [] (legalOf c ws calls)
+  unfolding storedRecords
+  store-whole lent calls fits =
       let first = firstOfSeed [] (legalOf c ws calls) in take-all (room (c .l) lent) first (fitted (c .l) lent (length first) fits)
 
   module _ (fine : cardRefusal c ws ≡ 0) where
@@ -78,11 +78,11 @@ module _ (c : Card) (ws : List ℕ) where
         legal-all (IsRecord (c .l)) reads
         (among-all (λ read. InReading (IsRecord (c .l)) (readCheck c ws read)) reads (λ read a. read-recordable c ws read))
 
-    shelf-records : (lent : List ℕ) (calls : List Call) → Chained c ws lent 0 calls
-        → records (c .l) (lastCount 0 calls) (lastBuffer lent calls) ≡ shelfRecords c ws lent (readsOf calls)
-    shelf-records lent calls t =
-        held-records (c .l) lent (shelfRecords c ws lent (readsOf calls)) (lastBuffer lent calls) (lastCount 0 calls)
-        (shelf-all (IsRecord (c .l)) lent (readsOf calls) (recordable (readsOf calls))) (shelf-holds c ws fine lent calls t)
+    store-records : (lent : List ℕ) (calls : List Call) → Chained c ws lent 0 calls
+        → records (c .l) (lastCount 0 calls) (lastBuffer lent calls) ≡ storedRecords c ws lent (readsOf calls)
+    store-records lent calls t =
+        held-records (c .l) lent (storedRecords c ws lent (readsOf calls)) (lastBuffer lent calls) (lastCount 0 calls)
+        (store-all (IsRecord (c .l)) lent (readsOf calls) (recordable (readsOf calls))) (store-holds c ws fine lent calls t)
 
     -- ---- reads of one file
 
@@ -115,32 +115,32 @@ module _ (c : Card) (ws : List ℕ) where
       legal-ours : All (OfFile c ws file) (legalOf c ws calls)
       legal-ours = legal-all (OfFile c ws file) (readsOf calls) readings-ours
 
-      pub shelf-ours : GivesAll (c .l) file (dropletsOn c ws (shelfAfter lent calls))
+      pub store-ours : GivesAll (c .l) file (dropletsOn c ws (storeAfter lent calls))
       unfolding GivesAll droplets
-      shelf-ours =
+      store-ours =
           all-mapped (λ d. payload (c .l) file (d .segments) ≡ d .payload) _ (records (c .l) (lastCount 0 calls) (lastBuffer lent calls))
-          (subst (All (OfFile c ws file)) (sym (shelf-records lent calls (job .chained))) (shelf-all (OfFile c ws file) lent (readsOf calls) legal-ours))
+          (subst (All (OfFile c ws file)) (sym (store-records lent calls (job .chained))) (store-all (OfFile c ws file) lent (readsOf calls) legal-ours))
 
     -- ---- two lists of calls
 
     module _ (file lent lent′ : List ℕ) (calls calls′ : List Call) (job : Job c ws file lent calls) (job′ : Job c ws file lent′ calls′)
         (fits : RoomForAll c ws lent′ calls′) (among : AllAmong (legalOf c ws calls) (legalOf c ws calls′)) where
-      records-among : AllAmong (shelfRecords c ws lent (readsOf calls)) (shelfRecords c ws lent′ (readsOf calls′))
+      records-among : AllAmong (storedRecords c ws lent (readsOf calls)) (storedRecords c ws lent′ (readsOf calls′))
       records-among x a =
           let legal = legalOf c ws calls in
           let legal′ = legalOf c ws calls′ in
           let first′ = firstOfSeed [] legal′ in
-          let there = all-among (λ y. Among y legal) (shelfRecords c ws lent (readsOf calls))
-          (shelf-all (λ y. Among y legal) lent (readsOf calls) (among-all (λ y. Among y legal) legal (λ y b. b))) x a in
+          let there = all-among (λ y. Among y legal) (storedRecords c ws lent (readsOf calls))
+          (store-all (λ y. Among y legal) lent (readsOf calls) (among-all (λ y. Among y legal) legal (λ y b. b))) x a in
           let one = first-there x legal′ (among x there) in
           let ours = all-among (OfFile c ws file) legal (legal-ours file lent calls job) x there in
           let ours′ = all-among (OfFile c ws file) first′ (first-all (OfFile c ws file) [] legal′ (legal-ours file lent′ calls′ job′)) (one .0) (one .1) in
-          subst (λ (l : List Record). Among x l) (sym (shelf-whole lent′ calls′ fits))
+          subst (λ (l : List Record). Among x l) (sym (store-whole lent′ calls′ fits))
           (subst (λ (y : Record). Among y first′) (sym (one-record c ws file x (one .0) ours ours′ (one .2))) (one .1))
 
-      pub droplets-among : AllAmong (dropletsOn c ws (shelfAfter lent calls)) (dropletsOn c ws (shelfAfter lent′ calls′))
+      pub droplets-among : AllAmong (dropletsOn c ws (storeAfter lent calls)) (dropletsOn c ws (storeAfter lent′ calls′))
       unfolding droplets
       droplets-among =
           among-mapped _ (records (c .l) (lastCount 0 calls) (lastBuffer lent calls)) (records (c .l) (lastCount 0 calls′) (lastBuffer lent′ calls′))
-          (subst (λ (l : List Record). AllAmong l (records (c .l) (lastCount 0 calls′) (lastBuffer lent′ calls′))) (sym (shelf-records lent calls (job .chained)))
-          (subst (λ (l : List Record). AllAmong (shelfRecords c ws lent (readsOf calls)) l) (sym (shelf-records lent′ calls′ (job′ .chained))) records-among))
+          (subst (λ (l : List Record). AllAmong l (records (c .l) (lastCount 0 calls′) (lastBuffer lent′ calls′))) (sym (store-records lent calls (job .chained)))
+          (subst (λ (l : List Record). AllAmong (storedRecords c ws lent (readsOf calls)) l) (sym (store-records lent′ calls′ (job′ .chained))) records-among))

@@ -8,7 +8,7 @@ use borrow.Author.Tests.{eqb-true}
 use lib.Dec.{eqb}
 use Rattle.field.specs.Bytes.{All}
 use Rattle.field.proofs.Tests.{either}
-use Rattle.decoder.specs.Shelf.{Record}
+use Rattle.decoder.specs.Store.{Record}
 use Rattle.decoder.specs.Restorer.{hasSeed}
 use Rattle.decoder.specs.Demand3.{firstOfSeed}
 use Rattle.decoder.specs.Vault.{Among}

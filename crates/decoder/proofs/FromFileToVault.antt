@@ -1,10 +1,10 @@
--- From file to vault and back: the claim about every file, every list of shelving calls whose legal reads are its strands, and
+-- From file to vault and back: the claim about every file, every list of store calls whose legal reads are its strands, and
 -- every restore, under one accepted card. Assumes nothing.
 use Rattle.droplet.specs.PoolCard.{cardWeights}
 use Rattle.droplet.proofs.CardAnswers.{reading-accepted}
-use Rattle.decoder.specs.Vault.{shelfAfter, FromFileToVault}
+use Rattle.decoder.specs.Vault.{storeAfter, FromFileToVault}
 use Rattle.decoder.proofs.PrintedReads.{printed-legal}
-use Rattle.decoder.proofs.FileReads.{jobs, further-reads, shelf-ours, droplets-among}
+use Rattle.decoder.proofs.FileReads.{jobs, further-reads, store-ours, droplets-among}
 use Rattle.decoder.proofs.NeverRefused15.{never-15}
 use Rattle.decoder.proofs.RightSheets.{right-sheet, more-droplets, same-droplets}
 
@@ -15,13 +15,13 @@ from-file-to-vault card c D e =
     record {
       jobs = jobs c weights fine;
       legal = λ file read bytes. printed-legal c weights fine file bytes read;
-      shelf = shelf-ours c weights fine;
+      store = store-ours c weights fine;
       never-15 = never-15 c weights fine;
-      back = λ file lent calls job. right-sheet c weights fine file (shelfAfter lent calls) (job .size) (shelf-ours c weights fine file lent calls job);
-      more-reads = λ file lent lent′ calls calls′ job job′ fits among. more-droplets c weights fine (shelfAfter lent calls) (shelfAfter lent′ calls′)
+      back = λ file lent calls job. right-sheet c weights fine file (storeAfter lent calls) (job .size) (store-ours c weights fine file lent calls job);
+      more-reads = λ file lent lent′ calls calls′ job job′ fits among. more-droplets c weights fine (storeAfter lent calls) (storeAfter lent′ calls′)
           (droplets-among c weights fine file lent lent′ calls calls′ job job′ fits among);
       further-reads = further-reads c weights;
-      any-order = λ file lent lent′ calls calls′ job job′ fits fits′ there back. same-droplets c weights fine (shelfAfter lent calls) (shelfAfter lent′ calls′)
+      any-order = λ file lent lent′ calls calls′ job job′ fits fits′ there back. same-droplets c weights fine (storeAfter lent calls) (storeAfter lent′ calls′)
           (droplets-among c weights fine file lent lent′ calls calls′ job job′ fits′ there)
           (droplets-among c weights fine file lent′ lent calls′ calls job′ job fits back);
       more-droplets = more-droplets c weights fine;

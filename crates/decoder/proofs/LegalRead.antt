@@ -5,7 +5,7 @@ use Prim.Native.Nat.{ℕ}
 use Rattle.droplet.specs.declared.card.Card.{Card}
 use Rattle.strand.specs.ReadCheck.{Reading, droplet, refused, readCheck}
 use Rattle.strand.proofs.LegalStrands.{accepts-exactly}
-use Rattle.decoder.specs.Shelf.{Record}
+use Rattle.decoder.specs.Store.{Record}
 use Rattle.decoder.proofs.RecordBytes.{IsRecord}
 
 -- what holds of the record of a reading that is a droplet

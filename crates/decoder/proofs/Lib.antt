@@ -22,9 +22,9 @@ pub mod PeelingOrder
 pub mod RecordBytes
 pub mod SeedSearch
 pub mod LegalRead
-pub mod ShelfCall
-pub mod ShelfChain
-pub mod ShelfDroplets
+pub mod StoreCall
+pub mod StoreChain
+pub mod StoreDroplets
 pub mod SoundRestore
 pub mod DemandThree
 pub mod PrintedLines

@@ -1,4 +1,4 @@
--- After a restoration each of the first K marks is 1 or 0, as its segment is present or missing. Assumes nothing.
+-- After a peeling each of the first K marks is 1 or 0, as its segment is present or missing. Assumes nothing.
 use mathlib.Core.Path.{_≡_, refl}
 use mathlib.Core.Bool.{cond}
 use mathlib.Core.List.{List}
@@ -10,7 +10,7 @@ use lib.Dec.{eqb}
 use lib.ListN.{getD}
 use lib.Seq.{getD-set-same, getD-set-other}
 use Rattle.decoder.specs.Restorer.{Droplet, State, marked, filled}
-use Rattle.decoder.proofs.PoolShapes.{IsDroplet, Restorable, stateAfter}
+use Rattle.decoder.proofs.PoolShapes.{IsDroplet, Peelable, stateAfter}
 use Rattle.decoder.proofs.StepCases.{Fill}
 use Rattle.decoder.proofs.ClearedState.{cleared-mark}
 use Rattle.decoder.proofs.FillKeeps.{fills-keep}
@@ -24,7 +24,7 @@ small-flag marks i = go (getD marks i 0)
     go (suc zero) h = refl
     go (suc (suc n)) h = absurd (let z : ⊥ = omega arith in z)
 
-module _ (K L : ℕ) (ds : List Droplet) (file marks : List ℕ) (ok : Restorable K L ds file marks) where
+module _ (K L : ℕ) (ds : List Droplet) (file marks : List ℕ) (ok : Peelable K L ds file marks) where
   abbrev Small : State → Type 0
   Small st = (i : ℕ) → i < K → getD (st .marks) i 0 ≤ 1
 

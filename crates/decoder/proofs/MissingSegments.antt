@@ -1,4 +1,4 @@
--- The missing and the recovered segments of a set, and how many of a set lie in another. Assumes nothing.
+-- The missing and the known segments of a set, and how many of a set lie in another. Assumes nothing.
 use mathlib.Core.Path.{_≡_, refl, sym, ap, _∙_}
 use mathlib.Core.Bool.{Bool, true, false, not, true≢false}
 use mathlib.Core.List.{List, [], _∷_}
@@ -7,7 +7,7 @@ use Prim.Native.Nat.{ℕ, suc, _<_}
 use lib.ListN.{length}
 use Rattle.field.specs.Bytes.{All}
 use Rattle.field.proofs.Tests.{either}
-use Rattle.decoder.specs.Restorer.{marked, missing, recovered}
+use Rattle.decoder.specs.Restorer.{marked, missing, known}
 use Rattle.decoder.specs.Demand3.{hits}
 
 module _ (marks : List ℕ) where
@@ -19,11 +19,11 @@ module _ (marks : List ℕ) where
       let rest = missing-all P Q f set (h .1) in
       elim (either (marked marks s)) [ inl e ↦ rw e rest | inr e ↦ rw e (f s (h .0) e, rest) ]
 
-  pub recovered-all : (P Q : ℕ → Type 0) → ((s : ℕ) → P s → marked marks s ≡ true → Q s) → (set : List ℕ) → All P set → All Q (recovered marks set)
-  unfolding recovered
-  recovered-all P Q f [] h = tt
-  recovered-all P Q f (s ∷ set) h =
-      let rest = recovered-all P Q f set (h .1) in
+  pub known-all : (P Q : ℕ → Type 0) → ((s : ℕ) → P s → marked marks s ≡ true → Q s) → (set : List ℕ) → All P set → All Q (known marks set)
+  unfolding known
+  known-all P Q f [] h = tt
+  known-all P Q f (s ∷ set) h =
+      let rest = known-all P Q f set (h .1) in
       elim (either (marked marks s)) [ inl e ↦ rw e (f s (h .0) e, rest) | inr e ↦ rw e rest ]
 
   -- the one missing segment of a set

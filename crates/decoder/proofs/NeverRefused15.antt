@@ -1,4 +1,4 @@
--- Where every legal read is a strand of one file, no shelving call is refused under 15. Assumes nothing.
+-- Where every legal read is a strand of one file, no store call is refused under 15. Assumes nothing.
 use mathlib.Core.Path.{_≡_, refl, sym, ap, _∙_, subst}
 use mathlib.Core.Bool.{Bool, true, false, cond}
 use mathlib.Core.List.{List, [], _∷_}
@@ -18,20 +18,20 @@ use Rattle.droplet.specs.Questions.{cardRefusal}
 use Rattle.strand.specs.Letters.{allLetters, lettersWord}
 use Rattle.strand.specs.Screen.{screenPasses}
 use Rattle.strand.specs.ReadCheck.{Reading, droplet, refused, wordSeed, sumsZero, wordReading, lettersReading, readCheck}
-use Rattle.decoder.specs.declared.shelf.StoreAnswer.the-variants as store
-use Rattle.decoder.specs.Shelf.{Record, recordsText, records, Found, found, absent, findSeed, Shelved, accepted, repeat, refusal, storeAnswer, keptAnswer, appended, compared, shelvedReading, shelving}
+use Rattle.decoder.specs.declared.store.StoreAnswer.the-variants as reply
+use Rattle.decoder.specs.Store.{Record, recordsText, records, Found, found, absent, findSeed, Stored, accepted, repeat, refusal, storeAnswer, keptAnswer, appended, compared, storeReading, storeRead}
 use Rattle.decoder.specs.Demand3.{Holds, Call, readsOf, nextCount, Chained}
 use Rattle.decoder.specs.Vault.{payloadFor, Job}
 use Rattle.decoder.proofs.AllOf.{all-front}
 use Rattle.decoder.proofs.SameBytes.{eq-same}
 use Rattle.decoder.proofs.RecordBytes.{IsRecord}
 use Rattle.decoder.proofs.LegalRead.{InReading, read-recordable}
-use Rattle.decoder.proofs.ShelfCall.{room, grown, held-records, held-fits}
-use Rattle.decoder.proofs.ShelfChain.{grown-all, promise-holds}
+use Rattle.decoder.proofs.StoreCall.{room, grown, held-records, held-fits}
+use Rattle.decoder.proofs.StoreChain.{grown-all, promise-holds}
 use Rattle.decoder.proofs.FileReads.{OfFile, readings-ours}
 
 -- the number of a refusal
-abbrev numberOf : Shelved → ℕ
+abbrev numberOf : Stored → ℕ
 numberOf (accepted n) = 0
 numberOf (repeat n) = 0
 numberOf (refusal q) = q
@@ -83,8 +83,8 @@ module _ (c : Card) (ws : List ℕ) (fine : cardRefusal c ws ≡ 0) where
         let n : _≡_ {A = ℕ} 0 15 = rw (same q refl, eq-same (r .payload)) at e in omega arith
 
     reading-other : (buffer : List ℕ) (count : ℕ) → All (OfFile c ws file) (records (c .l) count buffer) → (o : Reading) → Other o → InReading (OfFile c ws file) o
-        → numberOf (keptAnswer (shelvedReading (c .l) buffer count o)) ≡ 15 → ⊥
-    unfolding shelvedReading
+        → numberOf (keptAnswer (storeReading (c .l) buffer count o)) ≡ 15 → ⊥
+    unfolding storeReading
     reading-other buffer count h (refused q) n f = n
     reading-other buffer count h (droplet s p) n f =
         compared-other buffer count (record { seed = s; payload = p }) (findSeed s (records (c .l) count buffer))
@@ -93,8 +93,8 @@ module _ (c : Card) (ws : List ℕ) (fine : cardRefusal c ws ≡ 0) where
     module _ (lent : List ℕ) where
       call-other : (rs : List Record) → All (IsRecord (c .l)) rs → All (OfFile c ws file) rs → (buffer : List ℕ) (count : ℕ)
           → Holds (c .l) lent (take (room (c .l) lent) rs) buffer count → (read : List ℕ) → InReading (OfFile c ws file) (readCheck c ws read)
-          → numberOf (keptAnswer (shelving c ws buffer count read)) ≡ 15 → ⊥
-      unfolding shelving
+          → numberOf (keptAnswer (storeRead c ws buffer count read)) ≡ 15 → ⊥
+      unfolding storeRead
       call-other rs good ours buffer count h read f =
           let front = take (room (c .l) lent) rs in
           let held = held-records (c .l) lent front buffer count (all-front (IsRecord (c .l)) (room (c .l) lent) rs good) h in
@@ -104,7 +104,7 @@ module _ (c : Card) (ws : List ℕ) (fine : cardRefusal c ws ≡ 0) where
 
       chain-other : (rs : List Record) → All (IsRecord (c .l)) rs → All (OfFile c ws file) rs → (buffer : List ℕ) (count : ℕ)
           → Holds (c .l) lent (take (room (c .l) lent) rs) buffer count → (calls : List Call) → Chained c ws buffer count calls
-          → All (λ read. InReading (OfFile c ws file) (readCheck c ws read)) (readsOf calls) → All (λ k. k .answer ≡ store.Refused 15 → ⊥) calls
+          → All (λ read. InReading (OfFile c ws file) (readCheck c ws read)) (readsOf calls) → All (λ k. k .answer ≡ reply.Refused 15 → ⊥) calls
       unfolding Chained
       chain-other rs good ours buffer count h [] t f = tt
       chain-other rs good ours buffer count h (k ∷ ks) t f =
@@ -114,7 +114,7 @@ module _ (c : Card) (ws : List ℕ) (fine : cardRefusal c ws ≡ 0) where
                 (k .buffer) (nextCount count (k .answer)) (promise-holds c ws fine lent rs good buffer count h k (t .0)) ks (t .1) (f .1),
           )
 
-  pub never-15 : (file lent : List ℕ) (calls : List Call) → Job c ws file lent calls → All (λ k. k .answer ≡ store.Refused 15 → ⊥) calls
+  pub never-15 : (file lent : List ℕ) (calls : List Call) → Job c ws file lent calls → All (λ k. k .answer ≡ reply.Refused 15 → ⊥) calls
   never-15 file lent calls job =
       chain-other file lent [] tt tt lent 0 (rw take-nil (record { number = refl; bytes = unfold recordsText in rw zero-mul })) calls (job .chained)
       (readings-ours c ws fine file lent calls job)

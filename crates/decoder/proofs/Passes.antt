@@ -1,4 +1,4 @@
--- Whatever a step keeps, a pass, peeling and a restoration keep. Assumes nothing.
+-- Whatever a step keeps, a pass and all passes together keep. Assumes nothing.
 use mathlib.Core.Path.{_≡_, refl}
 use mathlib.Core.Bool.{true, false}
 use mathlib.Core.List.{List, [], _∷_}
@@ -7,7 +7,7 @@ use Prim.Native.Nat.{ℕ, zero, suc}
 use lib.Dec.{eqb}
 use Rattle.field.specs.Bytes.{All}
 use Rattle.field.proofs.Tests.{either}
-use Rattle.decoder.specs.Restorer.{Droplet, State, step, pass, present, peeled, peeledState, peel, cleared, restoration}
+use Rattle.decoder.specs.Restorer.{Droplet, State, step, pass, present, peeled, peeledState, peel, cleared, peelAll}
 
 -- the clauses of `pass` and `peel`, as equations
 pub pass-cons : (L : ℕ) (d : Droplet) (ds : List Droplet) (st : State) → pass L (d ∷ ds) st ≡ pass L ds (step L d st)
@@ -41,7 +41,7 @@ module _ (L : ℕ) (Inv : State → Type 0) (P : Droplet → Type 0) (keeps : (d
         | inr e ↦ rw (peel-more fuel K L ds done st e) (peel-keeps fuel K ds (suc done) (pass L ds st) h next)
       ]
 
-  pub restoration-keeps : (K : ℕ) (ds : List Droplet) (file marks : List ℕ) → All P ds → Inv (cleared K L file marks)
-      → Inv (peeledState (restoration K L ds file marks))
-  unfolding restoration
-  restoration-keeps K ds file marks = peel-keeps (suc K) K ds 0 (cleared K L file marks)
+  pub peelAll-keeps : (K : ℕ) (ds : List Droplet) (file marks : List ℕ) → All P ds → Inv (cleared K L file marks)
+      → Inv (peeledState (peelAll K L ds file marks))
+  unfolding peelAll
+  peelAll-keeps K ds file marks = peel-keeps (suc K) K ds 0 (cleared K L file marks)

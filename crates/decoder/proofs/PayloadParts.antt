@@ -1,4 +1,4 @@
--- The payload of a set is the XOR of that of its recovered and that of its missing segments. Assumes nothing.
+-- The payload of a set is the XOR of that of its known and that of its missing segments. Assumes nothing.
 use mathlib.Core.Path.{_≡_, refl, sym, ap₂, _∙_}
 use mathlib.Core.List.{List, [], _∷_}
 use mathlib.Core.Logic.{inl, inr}
@@ -9,7 +9,7 @@ use Rattle.field.proofs.Tests.{either}
 use Rattle.field.proofs.ByteLists.{zeros-bytes, xorLists-bytes, xorLists-assoc, xorLists-left-comm, xorLists-zeros}
 use Rattle.droplet.specs.Droplet.{segment, payload}
 use Rattle.droplet.proofs.Payload.{segment-length, payload-cons}
-use Rattle.decoder.specs.Restorer.{marked, missing, recovered}
+use Rattle.decoder.specs.Restorer.{marked, missing, known}
 
 xor-zeros : (L : ℕ) (xs : List ℕ) → length xs ≡ L → xorLists xs (replicate L 0) ≡ xs
 xor-zeros L xs e = rw (← e) (xorLists-zeros xs)
@@ -23,17 +23,17 @@ module _ (L : ℕ) (file : List ℕ) where
   payload-one i = payload-cons L file i [] ∙ rw payload-nil (xor-zeros L (segment L file i) (segment-length L file i))
 
   pub payload-parts : (marks set : List ℕ)
-      → payload L file set ≡ xorLists (payload L file (recovered marks set)) (payload L file (missing marks set))
-  unfolding recovered missing
+      → payload L file set ≡ xorLists (payload L file (known marks set)) (payload L file (missing marks set))
+  unfolding known missing
   payload-parts marks [] = rw payload-nil (sym (xor-zeros L (replicate L 0) (length-replicate L 0)))
   payload-parts marks (s ∷ set) =
       let bytes = segment L file s in
-      let known = payload L file (recovered marks set) in
+      let filled = payload L file (known marks set) in
       let left = payload L file (missing marks set) in
       rw (payload-cons L file s set, payload-parts marks set)
       (elim (either (marked marks s)) [
-        | inl e ↦ rw (e, payload-cons L file s (recovered marks set)) (sym (xorLists-assoc bytes known left))
-        | inr e ↦ rw (e, payload-cons L file s (missing marks set)) (xorLists-left-comm bytes known left)
+        | inl e ↦ rw (e, payload-cons L file s (known marks set)) (sym (xorLists-assoc bytes filled left))
+        | inr e ↦ rw (e, payload-cons L file s (missing marks set)) (xorLists-left-comm bytes filled left)
       ])
 
   pub payload-all-bytes : (set : List ℕ) → All (λ s. AllBytes (segment L file s)) set → AllBytes (payload L file set)

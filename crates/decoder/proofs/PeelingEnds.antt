@@ -10,9 +10,9 @@ use borrow.Author.Tests.{eqb-true, eqb-false}
 use lib.Dec.{eqb}
 use Rattle.field.specs.Bytes.{All}
 use Rattle.field.proofs.Tests.{either}
-use Rattle.decoder.specs.Restorer.{Droplet, State, pass, present, peeled, peeledPasses, peeledState, peel, cleared, restoration}
+use Rattle.decoder.specs.Restorer.{Droplet, State, pass, present, peeled, peeledPasses, peeledState, peel, cleared, peelAll}
 use Rattle.decoder.proofs.MarkCounts.{present-most}
-use Rattle.decoder.proofs.PoolShapes.{IsDroplet, Sized, Restorable, stateAfter}
+use Rattle.decoder.proofs.PoolShapes.{IsDroplet, Sized, Peelable, stateAfter}
 use Rattle.decoder.proofs.StepCases.{step-sized}
 use Rattle.decoder.proofs.Passes.{pass-keeps, peel-stop, peel-more}
 use Rattle.decoder.proofs.ClearedState.{cleared-present, cleared-sized}
@@ -68,19 +68,19 @@ module _ (K L : ℕ) (ds : List Droplet) (w : All (IsDroplet K L) ds) where
             e (fuel + spare) done ∙ peel-enough fuel spare (suc done) (pass L ds st) sized (omega arith) ∙ sym (e fuel done)
       ])
 
-module _ (K L : ℕ) (ds : List Droplet) (file marks : List ℕ) (ok : Restorable K L ds file marks) where
-  pub restoration-still : Still ds (stateAfter K L ds file marks)
-  unfolding restoration
-  restoration-still = peel-still K L ds (ok .droplets) (suc K) 0 (cleared K L file marks) (cleared-sized K L ds file marks ok) (omega arith)
+module _ (K L : ℕ) (ds : List Droplet) (file marks : List ℕ) (ok : Peelable K L ds file marks) where
+  pub peelAll-still : Still ds (stateAfter K L ds file marks)
+  unfolding peelAll
+  peelAll-still = peel-still K L ds (ok .droplets) (suc K) 0 (cleared K L file marks) (cleared-sized K L ds file marks ok) (omega arith)
 
   -- the K + 1 passes that the definition allows are no limit
-  pub restoration-enough : (spare : ℕ) → peel (suc K + spare) K L ds 0 (cleared K L file marks) ≡ restoration K L ds file marks
-  unfolding restoration
-  restoration-enough spare =
+  pub peelAll-enough : (spare : ℕ) → peel (suc K + spare) K L ds 0 (cleared K L file marks) ≡ peelAll K L ds file marks
+  unfolding peelAll
+  peelAll-enough spare =
       peel-enough K L ds (ok .droplets) (suc K) spare 0 (cleared K L file marks) (cleared-sized K L ds file marks ok) (omega arith)
 
   -- "at most the segments it answers as present, plus one"
-  pub restoration-passes : peeledPasses (restoration K L ds file marks) ≤ present K (stateAfter K L ds file marks .marks) + 1
-  unfolding restoration
-  restoration-passes =
+  pub peelAll-passes : peeledPasses (peelAll K L ds file marks) ≤ present K (stateAfter K L ds file marks .marks) + 1
+  unfolding peelAll
+  peelAll-passes =
       omega (arith, peel-passes K L ds (ok .droplets) (suc K) 0 (cleared K L file marks) (cleared-sized K L ds file marks ok), cleared-present K L file marks)

@@ -12,8 +12,8 @@ use Rattle.decoder.specs.Restorer.{Droplet, marked}
 use Rattle.decoder.specs.Demand3.{hits, Stalls}
 use Rattle.decoder.specs.Vault.{AllAmong}
 use Rattle.decoder.proofs.AllOf.{all-among, among-all}
-use Rattle.decoder.proofs.PoolShapes.{Restorable, stateAfter}
-use Rattle.decoder.proofs.FillKeeps.{restoration-sized}
+use Rattle.decoder.proofs.PoolShapes.{Peelable, stateAfter}
+use Rattle.decoder.proofs.FillKeeps.{peelAll-sized}
 use Rattle.decoder.proofs.MissingWhen.{left-largest, missing-when}
 use Rattle.decoder.proofs.MarkBytes.{mark-byte}
 
@@ -22,8 +22,8 @@ unfolding Stalls
 fewer-stall S ds ds′ among stalls =
     among-all (λ d. hits S (d .segments) ≡ 1 → ⊥) ds (λ d a. all-among (λ e. hits S (e .segments) ≡ 1 → ⊥) ds′ stalls d (among d a))
 
--- two restorations, each over its own buffers
-module _ (K L : ℕ) (ds ds′ : List Droplet) (file file′ marks marks′ : List ℕ) (ok : Restorable K L ds file marks) (ok′ : Restorable K L ds′ file′ marks′) where
+-- two peelings, each over its own buffers
+module _ (K L : ℕ) (ds ds′ : List Droplet) (file file′ marks marks′ : List ℕ) (ok : Peelable K L ds file marks) (ok′ : Peelable K L ds′ file′ marks′) where
   pub more-present : AllAmong ds ds′ → (i : ℕ) → i < K → marked (stateAfter K L ds file marks .marks) i ≡ true
       → marked (stateAfter K L ds′ file′ marks′ .marks) i ≡ true
   more-present among i b e =
@@ -39,7 +39,7 @@ both-or-none true b f g = sym (f refl)
 both-or-none false true f g = g refl
 both-or-none false false f g = refl
 
-module _ (K L : ℕ) (ds ds′ : List Droplet) (file file′ marks marks′ : List ℕ) (ok : Restorable K L ds file marks) (ok′ : Restorable K L ds′ file′ marks′)
+module _ (K L : ℕ) (ds ds′ : List Droplet) (file file′ marks marks′ : List ℕ) (ok : Peelable K L ds file marks) (ok′ : Peelable K L ds′ file′ marks′)
     (there : AllAmong ds ds′) (back : AllAmong ds′ ds) where
   pub same-marked : (i : ℕ) → i < K
       → marked (stateAfter K L ds file marks .marks) i ≡ marked (stateAfter K L ds′ file′ marks′ .marks) i
@@ -50,8 +50,8 @@ module _ (K L : ℕ) (ds ds′ : List Droplet) (file file′ marks marks′ : Li
   same-marks =
       let m = stateAfter K L ds file marks .marks in
       let m′ = stateAfter K L ds′ file′ marks′ .marks in
-      let size = length-take-le K m (restoration-sized K L ds file marks ok .marks) in
-      let size′ = length-take-le K m′ (restoration-sized K L ds′ file′ marks′ ok′ .marks) in
+      let size = length-take-le K m (peelAll-sized K L ds file marks ok .marks) in
+      let size′ = length-take-le K m′ (peelAll-sized K L ds′ file′ marks′ ok′ .marks) in
       ext-getD 0 (take K m) (take K m′) (size ∙ sym size′)
       (λ i h. let b : i < K = omega arith in
       getD-take K m i 0 b ∙ mark-byte K L ds file marks ok i b ∙ ap (λ (t : Bool). cond t 1 0) (same-marked i b)

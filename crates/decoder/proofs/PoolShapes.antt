@@ -1,10 +1,10 @@
--- What the laws over a restoration ask: droplets of a pool of K segments of L bytes, and buffers long enough. Assumes nothing.
+-- What the laws over a peeling ask: droplets of a pool of K segments of L bytes, and buffers long enough. Assumes nothing.
 use mathlib.Core.Path.{_≡_}
 use mathlib.Core.List.{List}
 use Prim.Native.Nat.{ℕ, _*_, _≤_, _<_}
 use lib.ListN.{length}
 use Rattle.field.specs.Bytes.{All}
-use Rattle.decoder.specs.Restorer.{Droplet, State, peeledState, restoration}
+use Rattle.decoder.specs.Restorer.{Droplet, State, peeledState, peelAll}
 
 pub record IsDroplet (K L : ℕ) (d : Droplet) : Type 0 where
   pub below : All (λ s. s < K) (d .segments)
@@ -14,11 +14,11 @@ pub record Sized (K L : ℕ) (st : State) : Type 0 where
   pub marks : K ≤ length (st .marks)
   pub file : K * L ≤ length (st .file)
 
-pub record Restorable (K L : ℕ) (ds : List Droplet) (file marks : List ℕ) : Type 0 where
+pub record Peelable (K L : ℕ) (ds : List Droplet) (file marks : List ℕ) : Type 0 where
   pub droplets : All (IsDroplet K L) ds
   pub fileFits : K * L ≤ length file
   pub marksFit : K ≤ length marks
 
--- the file and the marks after a restoration
+-- the file and the marks after a peeling
 abbrev pub stateAfter : ℕ → ℕ → List Droplet → List ℕ → List ℕ → State
-stateAfter K L ds file marks = peeledState (restoration K L ds file marks)
+stateAfter K L ds file marks = peeledState (peelAll K L ds file marks)

@@ -7,7 +7,7 @@ use lib.ListN.{length, take, drop, length-append}
 use lib.Seq.{take-at, drop-at, drop-drop}
 use Rattle.field.specs.Bytes.{All, fromBigEndian, toBigEndian}
 use Rattle.field.proofs.BigEndian.{to-from, to-length}
-use Rattle.decoder.specs.Shelf.{Record, recordText, recordFrom, recordsText, records}
+use Rattle.decoder.specs.Store.{Record, recordText, recordFrom, recordsText, records}
 
 -- a seed of four bytes and a payload of L bytes
 pub record IsRecord (L : ℕ) (r : Record) : Type 0 where

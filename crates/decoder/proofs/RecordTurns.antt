@@ -17,7 +17,7 @@ use Rattle.droplet.proofs.Sets.{segments-length, segments-below}
 use Rattle.droplet.proofs.Payload.{payload-length}
 use Rattle.decoder.specs.declared.restorer.Unmarked.the-variants.{None, One, Several}
 use Rattle.decoder.specs.declared.restorer.Drawn.{Drawn}
-use Rattle.decoder.specs.Shelf.{recordFrom, sameBytes}
+use Rattle.decoder.specs.Store.{recordFrom, sameBytes}
 use Rattle.decoder.specs.Restorer.{Droplet, State, marked, missing, filled, filledBy, step, present, isNil, contradicts}
 use Rattle.decoder.specs.Loops.{dropletOf, unmarkedOf, AllBelow, Seen, Room, Filled}
 use Rattle.decoder.proofs.AllOf.{all-map}

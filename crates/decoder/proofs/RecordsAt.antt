@@ -1,4 +1,4 @@
--- A loop over the records of a shelf: the record at a place, one more, and the end; the droplets of the records. Assumes nothing.
+-- A loop over the records of a store: the record at a place, one more, and the end; the droplets of the records. Assumes nothing.
 use mathlib.Core.Path.{_≡_, sym}
 use mathlib.Core.List.{List, [], _∷_, map}
 use Prim.Native.Nat.{ℕ, suc, _+_, _-_, _*_, _≤_, _<_}
@@ -7,64 +7,64 @@ use native.Mathlib.Omega.{arith}
 use lib.ListN.{length, take, drop, length-drop}
 use lib.Seq.{length-take-le, take-take, take-add, drop-at, drop-drop}
 use Rattle.field.specs.Bytes.{fromBigEndian}
-use Rattle.decoder.specs.Shelf.{Record, recordFrom, records}
+use Rattle.decoder.specs.Store.{Record, recordFrom, records}
 use Rattle.decoder.specs.Restorer.{Droplet}
 use Rattle.decoder.specs.Loops.{recordAt, dropletOf, dropletsOf}
 
 -- the records from place i on, of the first `count`
 unfoldable pub recordsFrom : ℕ → ℕ → List ℕ → ℕ → List Record
-recordsFrom L count shelf i = records L (count - i) (drop (i * (4 + L)) shelf)
+recordsFrom L count store i = records L (count - i) (drop (i * (4 + L)) store)
 
-module _ (L count : ℕ) (shelf : List ℕ) where
-  pub records-all : recordsFrom L count shelf 0 ≡ records L count shelf
+module _ (L count : ℕ) (store : List ℕ) where
+  pub records-all : recordsFrom L count store 0 ≡ records L count store
   unfolding recordsFrom
   records-all = rw (sub-zero, zero-mul)
 
-  pub records-end : (i : ℕ) → count ≤ i → recordsFrom L count shelf i ≡ []
+  pub records-end : (i : ℕ) → count ≤ i → recordsFrom L count store i ≡ []
   unfolding recordsFrom records
   records-end i h = let e : count - i ≡ 0 = omega arith in rw e
 
-  module _ (i : ℕ) (h : i < count) (fits : count * (4 + L) ≤ length shelf) where
-    pub record-fits : i * (4 + L) + (4 + L) ≤ length shelf
+  module _ (i : ℕ) (h : i < count) (fits : count * (4 + L) ≤ length store) where
+    pub record-fits : i * (4 + L) + (4 + L) ≤ length store
     record-fits = omega (arith, mul-le-mul-right (4 + L) h)
 
-    pub record-length : length (recordAt L shelf i) ≡ 4 + L
+    pub record-length : length (recordAt L store i) ≡ 4 + L
     unfolding recordAt
-    record-length = length-take-le (4 + L) (drop (i * (4 + L)) shelf) (rw length-drop (omega (arith, record-fits)))
+    record-length = length-take-le (4 + L) (drop (i * (4 + L)) store) (rw length-drop (omega (arith, record-fits)))
 
     -- a record reads no byte behind its own
-    record-own : recordFrom L (drop (i * (4 + L)) shelf) ≡ recordFrom L (recordAt L shelf i)
+    record-own : recordFrom L (drop (i * (4 + L)) store) ≡ recordFrom L (recordAt L store i)
     unfolding recordFrom recordAt
     record-own =
-        let from = drop (i * (4 + L)) shelf in
+        let from = drop (i * (4 + L)) store in
         let seed = take-take 4 (4 + L) from (omega arith) in
         let size : length (take 4 from) ≡ 4 = length-take-le 4 from (rw length-drop (omega (arith, record-fits))) in
         let payload : take L (drop 4 (take (4 + L) from)) ≡ take L (drop 4 from)
         = rw (take-add 4 L from, drop-at (take 4 from) (take L (drop 4 from)) 4 size) (take-take L L (drop 4 from) (omega arith)) in
         λ z. record { seed = fromBigEndian (sym seed z); payload = sym payload z }
 
-    pub records-next : recordsFrom L count shelf i ≡ recordFrom L (recordAt L shelf i) ∷ recordsFrom L count shelf (i + 1)
+    pub records-next : recordsFrom L count store i ≡ recordFrom L (recordAt L store i) ∷ recordsFrom L count store (i + 1)
     unfolding recordsFrom records
     records-next =
         let e : count - i ≡ suc (count - (i + 1)) = omega arith in
         let past : i * (4 + L) + (4 + L) ≡ (i + 1) * (4 + L) = omega arith in
-        rw (e, drop-drop (4 + L) (i * (4 + L)) shelf, past, record-own)
+        rw (e, drop-drop (4 + L) (i * (4 + L)) store, past, record-own)
 
 -- the droplets of these records
 unfoldable pub dropletsFrom : List ℕ → ℕ → ℕ → ℕ → List ℕ → ℕ → List Droplet
-dropletsFrom weights K L count shelf i = map (dropletOf weights K) (recordsFrom L count shelf i)
+dropletsFrom weights K L count store i = map (dropletOf weights K) (recordsFrom L count store i)
 
-module _ (weights : List ℕ) (K L count : ℕ) (shelf : List ℕ) where
-  pub droplets-all : dropletsFrom weights K L count shelf 0 ≡ dropletsOf weights K L count shelf
+module _ (weights : List ℕ) (K L count : ℕ) (store : List ℕ) where
+  pub droplets-all : dropletsFrom weights K L count store 0 ≡ dropletsOf weights K L count store
   unfolding dropletsFrom dropletsOf
-  droplets-all = rw (records-all L count shelf)
+  droplets-all = rw (records-all L count store)
 
-  pub droplets-end : (i : ℕ) → count ≤ i → dropletsFrom weights K L count shelf i ≡ []
+  pub droplets-end : (i : ℕ) → count ≤ i → dropletsFrom weights K L count store i ≡ []
   unfolding dropletsFrom
-  droplets-end i h = rw (records-end L count shelf i h)
+  droplets-end i h = rw (records-end L count store i h)
 
-  pub droplets-next : (i : ℕ) → i < count → count * (4 + L) ≤ length shelf
-      → dropletsFrom weights K L count shelf i
-      ≡ dropletOf weights K (recordFrom L (recordAt L shelf i)) ∷ dropletsFrom weights K L count shelf (i + 1)
+  pub droplets-next : (i : ℕ) → i < count → count * (4 + L) ≤ length store
+      → dropletsFrom weights K L count store i
+      ≡ dropletOf weights K (recordFrom L (recordAt L store i)) ∷ dropletsFrom weights K L count store (i + 1)
   unfolding dropletsFrom
-  droplets-next i h fits = rw (records-next L count shelf i h fits)
+  droplets-next i h fits = rw (records-next L count store i h fits)

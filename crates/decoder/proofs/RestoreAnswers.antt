@@ -15,27 +15,27 @@ use Rattle.droplet.proofs.Conjunctions.{and-true, said-yes}
 use Rattle.droplet.proofs.CardAnswers.{Passed, SaysNo}
 use Rattle.decoder.specs.declared.restorer.Sheet.{Sheet}
 use Rattle.decoder.specs.declared.restorer.RestoreAnswer.the-variants as answer
-use Rattle.decoder.specs.Shelf.{records, countFits}
-use Rattle.decoder.specs.Restorer.{State, droplets, hasSeed, restoration, restoreRefusal, restore, RestorePromise}
-use Rattle.decoder.specs.Loops.{dropletOf, dropletsOf, Room, Recovered, laterRefusal}
+use Rattle.decoder.specs.Store.{records, countFits}
+use Rattle.decoder.specs.Restorer.{State, droplets, hasSeed, peelAll, restoreRefusal, restore, RestorePromise}
+use Rattle.decoder.specs.Loops.{dropletOf, dropletsOf, Room, MadeSheet, laterRefusal}
 
 said-not : (b : Bool) (n others : ℕ) → cond b (suc n) others ≡ 0 → (b ≡ false) × (others ≡ 0)
 said-not true n others e = absurd (let z : ⊥ = omega arith in z)
 said-not false n others e = (refl, e)
 
 -- the questions 14, 17, 18 and 8 say yes
-pub record Fits (K L D : ℕ) (shelf : List ℕ) (count file marks list : ℕ) : Type 0 where
-  pub records-fit : count * (4 + L) ≤ length shelf
+pub record Fits (K L D : ℕ) (store : List ℕ) (count file marks list : ℕ) : Type 0 where
+  pub records-fit : count * (4 + L) ≤ length store
   pub file-fits : K * L ≤ file
   pub marks-fit : K ≤ marks
   pub list-fits : D ≤ list
 
-pub later-fits : (K L D : ℕ) (shelf : List ℕ) (count file marks list : ℕ) → laterRefusal K L D shelf count file marks list ≡ 0
-    → Fits K L D shelf count file marks list
+pub later-fits : (K L D : ℕ) (store : List ℕ) (count file marks list : ℕ) → laterRefusal K L D store count file marks list ≡ 0
+    → Fits K L D store count file marks list
 unfolding laterRefusal
-later-fits K L D shelf count file marks list e =
-    let q14 = said-yes (countFits L shelf count) 13 _ e in
-    let q17 = said-not (hasSeed 0 (records L count shelf)) 16 _ (q14 .1) in
+later-fits K L D store count file marks list e =
+    let q14 = said-yes (countFits L store count) 13 _ e in
+    let q17 = said-not (hasSeed 0 (records L count store)) 16 _ (q14 .1) in
     let q18 = said-yes (leb (K * L) file && leb K marks) 17 _ (q17 .1) in
     let q8 = said-yes (leb D list) 7 0 (q18 .1) in
     let both = and-true (leb (K * L) file) (leb K marks) (q18 .0) in
@@ -46,12 +46,12 @@ later-fits K L D shelf count file marks list e =
       list-fits = leb-true _ _ (q8 .0);
     }
 
-module _ (c : Card) (weights shelf : List ℕ) (count : ℕ) (file marks list : List ℕ) where
+module _ (c : Card) (weights store : List ℕ) (count : ℕ) (file marks list : List ℕ) where
   abbrev refusalOf : ℕ
-  refusalOf = restoreRefusal c weights shelf count (length file) (length marks) (length list)
+  refusalOf = restoreRefusal c weights store count (length file) (length marks) (length list)
 
   refused-promise : (n : ℕ) → refusalOf ≡ n → (n ≡ 0 → ⊥)
-      → RestorePromise c weights shelf count file marks list (answer.Refused n) file marks list
+      → RestorePromise c weights store count file marks list (answer.Refused n) file marks list
   unfolding restore
   refused-promise n e h =
       let other : refusalOf ≡ 0 → ⊥ = λ z. h (sym e ∙ z) in
@@ -64,25 +64,25 @@ module _ (c : Card) (weights shelf : List ℕ) (count : ℕ) (file marks list : 
       }
 
   pub card-refused : (n : ℕ) → SaysNo (cardRefusal c weights) n
-      → RestorePromise c weights shelf count file marks list (answer.Refused n) file marks list
+      → RestorePromise c weights store count file marks list (answer.Refused n) file marks list
   unfolding restoreRefusal
   card-refused n stop =
       refused-promise n (simp (ne-eqb (cardRefusal c weights) 0 (λ z. stop .not-zero (sym (stop .number) ∙ z))) (stop .number)) (stop .not-zero)
 
   module _ (plan : Plan) (passed : Passed c weights (plan .segments) (plan .degrees) (plan .sum)) where
-    later : laterRefusal (plan .segments) (c .l) (plan .degrees) shelf count (length file) (length marks) (length list) ≡ refusalOf
+    later : laterRefusal (plan .segments) (c .l) (plan .degrees) store count (length file) (length marks) (length list) ≡ refusalOf
     unfolding laterRefusal restoreRefusal
     later = rw (eq-eqb _ _ (passed .unrefused), passed .segments, passed .degrees)
 
-    pub later-refused : (n : ℕ) → n ≡ laterRefusal (plan .segments) (c .l) (plan .degrees) shelf count (length file) (length marks) (length list)
-        → (n ≡ 0 → ⊥) → RestorePromise c weights shelf count file marks list (answer.Refused n) file marks list
+    pub later-refused : (n : ℕ) → n ≡ laterRefusal (plan .segments) (c .l) (plan .degrees) store count (length file) (length marks) (length list)
+        → (n ≡ 0 → ⊥) → RestorePromise c weights store count file marks list (answer.Refused n) file marks list
     later-refused n e h = refused-promise n (sym (e ∙ later)) h
 
-    module _ (fine : 0 ≡ laterRefusal (plan .segments) (c .l) (plan .degrees) shelf count (length file) (length marks) (length list)) where
-      fits : Fits (plan .segments) (c .l) (plan .degrees) shelf count (length file) (length marks) (length list)
+    module _ (fine : 0 ≡ laterRefusal (plan .segments) (c .l) (plan .degrees) store count (length file) (length marks) (length list)) where
+      fits : Fits (plan .segments) (c .l) (plan .degrees) store count (length file) (length marks) (length list)
       fits = later-fits _ _ _ _ _ _ _ _ (sym fine)
 
-      pub records-fit : count * (4 + c .l) ≤ length shelf
+      pub records-fit : count * (4 + c .l) ≤ length store
       records-fit = fits .records-fit
 
       pub room : Room plan (c .l) weights file marks list
@@ -102,14 +102,14 @@ module _ (c : Card) (weights shelf : List ℕ) (count : ℕ) (file marks list : 
             fileFits = fits .file-fits;
           }
 
-      same-droplets : dropletsOf weights (plan .segments) (c .l) count shelf ≡ droplets c weights shelf count
+      same-droplets : dropletsOf weights (plan .segments) (c .l) count store ≡ droplets c weights store count
       unfolding dropletsOf dropletOf droplets
       same-droplets = rw (passed .segments)
 
       pub restored-promise : (file′ marks′ list′ : List ℕ) (r : Sheet)
-          → Recovered (plan .segments) (c .l) weights (dropletsOf weights (plan .segments) (c .l) count shelf)
-          (restoration (plan .segments) (c .l) (dropletsOf weights (plan .segments) (c .l) count shelf) file marks) list file′ marks′ list′ r
-          → RestorePromise c weights shelf count file marks list (answer.Restored r) file′ marks′ list′
+          → MadeSheet (plan .segments) (c .l) weights (dropletsOf weights (plan .segments) (c .l) count store)
+          (peelAll (plan .segments) (c .l) (dropletsOf weights (plan .segments) (c .l) count store) file marks) list file′ marks′ list′ r
+          → RestorePromise c weights store count file marks list (answer.Restored r) file′ marks′ list′
       unfolding restore
       restored-promise file′ marks′ list′ r done =
           let none : refusalOf ≡ 0 = sym (fine ∙ later) in

@@ -10,7 +10,7 @@ use borrow.Author.Tests.{eq-eqb, ne-eqb}
 use lib.ListN.{length, drop}
 use Rattle.droplet.specs.declared.card.Plan.{Plan}
 use Rattle.droplet.specs.PoolCard.{weightCount}
-use Rattle.decoder.specs.Shelf.{recordFrom}
+use Rattle.decoder.specs.Store.{recordFrom}
 use Rattle.decoder.specs.Restorer.{Droplet, State, step, pass, present, peeled, peel, contradicts, contradictions}
 use Rattle.decoder.specs.Loops.{recordAt, dropletOf, dropletsOf, Room, Filled}
 use Rattle.decoder.proofs.MarkCounts.{present-most}
@@ -38,21 +38,21 @@ module _ (plan : Plan) (L : ℕ) (weights : List ℕ) {file marks list file′ m
 -- ---- a pass
 
 -- after i records: the records left make of the state now what all make of the state at the start
-pub record Passing (weights : List ℕ) (K L count : ℕ) (shelf file₀ marks₀ list₀ file marks list : List ℕ) (filled i : ℕ) : Type 0 where
+pub record Passing (weights : List ℕ) (K L count : ℕ) (store file₀ marks₀ list₀ file marks list : List ℕ) (filled i : ℕ) : Type 0 where
   pub at-most : i ≤ count
-  pub goes-on : pass L (dropletsFrom weights K L count shelf i) (record { file = file; marks = marks })
-      ≡ pass L (dropletsOf weights K L count shelf) (record { file = file₀; marks = marks₀ })
+  pub goes-on : pass L (dropletsFrom weights K L count store i) (record { file = file; marks = marks })
+      ≡ pass L (dropletsOf weights K L count store) (record { file = file₀; marks = marks₀ })
   pub counted : present K marks ≡ present K marks₀ + filled
   pub rest : drop (weightCount weights) list ≡ drop (weightCount weights) list₀
   pub file-size : length file ≡ length file₀
   pub marks-size : length marks ≡ length marks₀
   pub list-size : length list ≡ length list₀
 
-module _ (weights : List ℕ) (K L count : ℕ) (shelf file₀ marks₀ list₀ : List ℕ) where
-  pub passing-begins : (zeroth : ℕ) → zeroth ≡ 0 → Passing weights K L count shelf file₀ marks₀ list₀ file₀ marks₀ list₀ zeroth 0
+module _ (weights : List ℕ) (K L count : ℕ) (store file₀ marks₀ list₀ : List ℕ) where
+  pub passing-begins : (zeroth : ℕ) → zeroth ≡ 0 → Passing weights K L count store file₀ marks₀ list₀ file₀ marks₀ list₀ zeroth 0
   passing-begins zeroth z = record {
     at-most = omega arith;
-    goes-on = ap (λ (ds : List Droplet). pass L ds (record { file = file₀; marks = marks₀ })) (droplets-all weights K L count shelf);
+    goes-on = ap (λ (ds : List Droplet). pass L ds (record { file = file₀; marks = marks₀ })) (droplets-all weights K L count store);
     counted = omega arith;
     rest = refl;
     file-size = refl;
@@ -60,23 +60,23 @@ module _ (weights : List ℕ) (K L count : ℕ) (shelf file₀ marks₀ list₀ 
     list-size = refl;
   }
 
-  module _ (file marks list : List ℕ) (filled i : ℕ) (now : Passing weights K L count shelf file₀ marks₀ list₀ file marks list filled i) where
+  module _ (file marks list : List ℕ) (filled i : ℕ) (now : Passing weights K L count store file₀ marks₀ list₀ file marks list filled i) where
     -- no more than K segments are filled
     pub few-filled : (n : ℕ) (marks′ : List ℕ) → present K marks′ ≡ present K marks + n → filled + n ≤ K
     few-filled n marks′ e = omega (arith, now .counted, present-most K marks′)
 
-    pub passing-turns : i < count → count * (4 + L) ≤ length shelf → (file′ marks′ list′ : List ℕ) (n : ℕ)
-        → Filled K weights (step L (dropletOf weights K (recordFrom L (recordAt L shelf i))) (record { file = file; marks = marks })) marks list file′ marks′ list′ n
+    pub passing-turns : i < count → count * (4 + L) ≤ length store → (file′ marks′ list′ : List ℕ) (n : ℕ)
+        → Filled K weights (step L (dropletOf weights K (recordFrom L (recordAt L store i))) (record { file = file; marks = marks })) marks list file′ marks′ list′ n
         → length file′ ≡ length file → length marks′ ≡ length marks → length list′ ≡ length list
-        → Passing weights K L count shelf file₀ marks₀ list₀ file′ marks′ list′ (filled + n) (i + 1)
+        → Passing weights K L count store file₀ marks₀ list₀ file′ marks′ list′ (filled + n) (i + 1)
     passing-turns h fits file′ marks′ list′ n stepped f m l =
-        let next = dropletsFrom weights K L count shelf (i + 1) in
-        let d = dropletOf weights K (recordFrom L (recordAt L shelf i)) in
+        let next = dropletsFrom weights K L count store (i + 1) in
+        let d = dropletOf weights K (recordFrom L (recordAt L store i)) in
         record {
           at-most = omega arith;
           goes-on =
               ap (pass L next) (stepped .state) ∙ sym (pass-cons L d next (record { file = file; marks = marks }))
-              ∙ ap (λ (ds : List Droplet). pass L ds (record { file = file; marks = marks })) (sym (droplets-next weights K L count shelf i h fits))
+              ∙ ap (λ (ds : List Droplet). pass L ds (record { file = file; marks = marks })) (sym (droplets-next weights K L count store i h fits))
               ∙ now .goes-on;
           counted = omega (arith, stepped .count, now .counted);
           rest = stepped .rest ∙ now .rest;
@@ -86,11 +86,11 @@ module _ (weights : List ℕ) (K L count : ℕ) (shelf file₀ marks₀ list₀ 
         }
 
     pub passing-ends : count ≤ i
-        → Filled K weights (pass L (dropletsOf weights K L count shelf) (record { file = file₀; marks = marks₀ })) marks₀ list₀ file marks list filled
+        → Filled K weights (pass L (dropletsOf weights K L count store) (record { file = file₀; marks = marks₀ })) marks₀ list₀ file marks list filled
     unfolding pass
     passing-ends h = record {
       state =
-          ap (λ (ds : List Droplet). pass L ds (record { file = file; marks = marks })) (sym (droplets-end weights K L count shelf i h)) ∙ now .goes-on;
+          ap (λ (ds : List Droplet). pass L ds (record { file = file; marks = marks })) (sym (droplets-end weights K L count store i h)) ∙ now .goes-on;
       count = now .counted;
       rest = now .rest;
     }
@@ -170,38 +170,38 @@ abbrev pub one : Bool → ℕ
 one true = 1
 one false = 0
 
-pub record Counting (weights : List ℕ) (K L count : ℕ) (shelf : List ℕ) (st : State) (list₀ list : List ℕ) (n i : ℕ) : Type 0 where
+pub record Counting (weights : List ℕ) (K L count : ℕ) (store : List ℕ) (st : State) (list₀ list : List ℕ) (n i : ℕ) : Type 0 where
   pub at-most : i ≤ count
   pub few : n ≤ i
-  pub goes-on : n + contradictions L (dropletsFrom weights K L count shelf i) st ≡ contradictions L (dropletsOf weights K L count shelf) st
+  pub goes-on : n + contradictions L (dropletsFrom weights K L count store i) st ≡ contradictions L (dropletsOf weights K L count store) st
   pub rest : drop (weightCount weights) list ≡ drop (weightCount weights) list₀
   pub list-size : length list ≡ length list₀
 
-module _ (weights : List ℕ) (K L count : ℕ) (shelf : List ℕ) (st : State) (list₀ : List ℕ) where
-  pub counting-begins : Counting weights K L count shelf st list₀ list₀ 0 0
+module _ (weights : List ℕ) (K L count : ℕ) (store : List ℕ) (st : State) (list₀ : List ℕ) where
+  pub counting-begins : Counting weights K L count store st list₀ list₀ 0 0
   counting-begins = record {
     at-most = omega arith;
     few = omega arith;
-    goes-on = let e = ap (λ (ds : List Droplet). contradictions L ds st) (droplets-all weights K L count shelf) in omega arith;
+    goes-on = let e = ap (λ (ds : List Droplet). contradictions L ds st) (droplets-all weights K L count store) in omega arith;
     rest = refl;
     list-size = refl;
   }
 
-  module _ (list : List ℕ) (n i : ℕ) (now : Counting weights K L count shelf st list₀ list n i) where
+  module _ (list : List ℕ) (n i : ℕ) (now : Counting weights K L count store st list₀ list n i) where
     counted-next : (b : Bool) (d : Droplet) (ds : List Droplet) → b ≡ contradicts L st d
         → contradictions L (d ∷ ds) st ≡ one b + contradictions L ds st
     unfolding contradictions
     counted-next true d ds e = rw (sym e) (omega arith)
     counted-next false d ds e = rw (sym e) (omega arith)
 
-    pub counting-turns : i < count → count * (4 + L) ≤ length shelf → (list′ : List ℕ) (b : Bool) (m : ℕ)
-        → b ≡ contradicts L st (dropletOf weights K (recordFrom L (recordAt L shelf i))) → m ≡ n + one b
+    pub counting-turns : i < count → count * (4 + L) ≤ length store → (list′ : List ℕ) (b : Bool) (m : ℕ)
+        → b ≡ contradicts L st (dropletOf weights K (recordFrom L (recordAt L store i))) → m ≡ n + one b
         → drop (weightCount weights) list′ ≡ drop (weightCount weights) list → length list′ ≡ length list
-        → Counting weights K L count shelf st list₀ list′ m (i + 1)
+        → Counting weights K L count store st list₀ list′ m (i + 1)
     counting-turns h fits list′ b m e g r l =
-        let next = dropletsFrom weights K L count shelf (i + 1) in
-        let d = dropletOf weights K (recordFrom L (recordAt L shelf i)) in
-        let here = ap (λ (ds : List Droplet). contradictions L ds st) (droplets-next weights K L count shelf i h fits) ∙ counted-next b d next e in
+        let next = dropletsFrom weights K L count store (i + 1) in
+        let d = dropletOf weights K (recordFrom L (recordAt L store i)) in
+        let here = ap (λ (ds : List Droplet). contradictions L ds st) (droplets-next weights K L count store i h fits) ∙ counted-next b d next e in
         record {
           at-most = omega arith;
           few = few-more b g;
@@ -214,9 +214,9 @@ module _ (weights : List ℕ) (K L count : ℕ) (shelf : List ℕ) (st : State) 
         few-more true g = omega (arith, now .few)
         few-more false g = omega (arith, now .few)
 
-    pub counting-ends : count ≤ i → n ≡ contradictions L (dropletsOf weights K L count shelf) st
+    pub counting-ends : count ≤ i → n ≡ contradictions L (dropletsOf weights K L count store) st
     unfolding contradictions
     counting-ends h =
-        let e = ap (λ (ds : List Droplet). contradictions L ds st) (droplets-end weights K L count shelf i h) in
-        let z : contradictions L (dropletsFrom weights K L count shelf i) st ≡ 0 = e in
+        let e = ap (λ (ds : List Droplet). contradictions L ds st) (droplets-end weights K L count store i h) in
+        let z : contradictions L (dropletsFrom weights K L count store i) st ≡ 0 = e in
         omega (arith, now .goes-on)

@@ -17,14 +17,14 @@ use Rattle.droplet.specs.Droplet.{segment, payload}
 use Rattle.droplet.proofs.LegalCard.{legal}
 use Rattle.droplet.proofs.Payload.{segment-at}
 use Rattle.decoder.specs.declared.restorer.Sheet.{Sheet}
-use Rattle.decoder.specs.Shelf.{sameBytes}
+use Rattle.decoder.specs.Store.{sameBytes}
 use Rattle.decoder.specs.Restorer.{Droplet, State, marked, missing, isNil, contradicts, contradictions}
 use Rattle.decoder.specs.Demand3.{GivesAll}
-use Rattle.decoder.specs.Vault.{AllAmong, LentShelf, dropletsOn, Restores, RightSheet, NoBetter, SameMarks}
+use Rattle.decoder.specs.Vault.{AllAmong, LentStore, dropletsOn, SheetFrom, RightSheet, NoBetter, SameMarks}
 use Rattle.decoder.proofs.MarkCounts.{present-all}
 use Rattle.decoder.proofs.SameBytes.{eq-same}
 use Rattle.decoder.proofs.PoolShapes.{IsDroplet, stateAfter}
-use Rattle.decoder.proofs.FillKeeps.{restoration-sized}
+use Rattle.decoder.proofs.FillKeeps.{peelAll-sized}
 use Rattle.decoder.proofs.PayloadParts.{payload-same}
 use Rattle.decoder.proofs.PresentRight.{present-right}
 use Rattle.decoder.proofs.PeelingOrder.{more-present, same-marks}
@@ -77,19 +77,19 @@ module _ (K L : ℕ) (f g : List ℕ) (l-least : 1 ≤ L) (same : (i : ℕ) → 
 -- ---- a restore that is not refused
 
 module _ (c : Card) (ws : List ℕ) (fine : cardRefusal c ws ≡ 0) where
-  ended : (shelf : LentShelf) (r : Sheet) (file′ marks′ : List ℕ) (p : Restores c ws shelf r file′ marks′)
-      → Ended (segmentCount c) (c .l) (dropletsOn c ws shelf) (p .file) (p .marks) r file′ marks′
-  ended shelf r file′ marks′ p =
-      restore-ends c ws fine (shelf .buffer) (shelf .count) (p .file) (p .marks) (p .list) r file′ marks′ (p .list′) (p .promise)
+  ended : (store : LentStore) (r : Sheet) (file′ marks′ : List ℕ) (p : SheetFrom c ws store r file′ marks′)
+      → Ended (segmentCount c) (c .l) (dropletsOn c ws store) (p .file) (p .marks) r file′ marks′
+  ended store r file′ marks′ p =
+      restore-ends c ws fine (store .buffer) (store .count) (p .file) (p .marks) (p .list) r file′ marks′ (p .list′) (p .promise)
 
-  pub right-sheet : (file : List ℕ) (shelf : LentShelf) → length file ≡ c .f → GivesAll (c .l) file (dropletsOn c ws shelf)
-      → (r : Sheet) (file′ marks′ : List ℕ) → Restores c ws shelf r file′ marks′ → RightSheet c ws file r file′ marks′
-  right-sheet file shelf size gives r file′ marks′ p =
+  pub right-sheet : (file : List ℕ) (store : LentStore) → length file ≡ c .f → GivesAll (c .l) file (dropletsOn c ws store)
+      → (r : Sheet) (file′ marks′ : List ℕ) → SheetFrom c ws store r file′ marks′ → RightSheet c ws file r file′ marks′
+  right-sheet file store size gives r file′ marks′ p =
       let K = segmentCount c in
       let L = c .l in
-      let ds = dropletsOn c ws shelf in
+      let ds = dropletsOn c ws store in
       let sizes = legal c ws fine .sizes in
-      let end = ended shelf r file′ marks′ p in
+      let end = ended store r file′ marks′ p in
       let st = stateAfter K L ds (p .file) (p .marks) in
       let right = present-right K L file ds (p .file) (p .marks) (end .ok) gives in
       rw (end .fills, end .sets)
@@ -98,22 +98,22 @@ module _ (c : Card) (ws : List ℕ) (fine : cardRefusal c ws ≡ 0) where
         right = right;
         agrees = end .differs ∙ all-agree K L file st right ds (end .ok .droplets) gives;
         whole = λ all. same-file K L (st .file) file (sizes .l-least) (λ i b. right i b (present-all K (st .marks) (sym (end .presents) ∙ all) i b))
-            (c .f) size (sizes .file-within) (restoration-sized K L ds (p .file) (p .marks) (end .ok) .file);
+            (c .f) size (sizes .file-within) (peelAll-sized K L ds (p .file) (p .marks) (end .ok) .file);
       })
 
-  pub more-droplets : (shelf shelf′ : LentShelf) → AllAmong (dropletsOn c ws shelf) (dropletsOn c ws shelf′) → NoBetter c ws shelf shelf′
-  more-droplets shelf shelf′ among r r′ file marks file′ marks′ p p′ i b t =
-      let end = ended shelf r file marks p in
-      let end′ = ended shelf′ r′ file′ marks′ p′ in
+  pub more-droplets : (store store′ : LentStore) → AllAmong (dropletsOn c ws store) (dropletsOn c ws store′) → NoBetter c ws store store′
+  more-droplets store store′ among r r′ file marks file′ marks′ p p′ i b t =
+      let end = ended store r file marks p in
+      let end′ = ended store′ r′ file′ marks′ p′ in
       ap (λ (m : List ℕ). marked m i) (end′ .sets)
-      ∙ more-present (segmentCount c) (c .l) (dropletsOn c ws shelf) (dropletsOn c ws shelf′) (p .file) (p′ .file) (p .marks) (p′ .marks) (end .ok) (end′ .ok) among i b
+      ∙ more-present (segmentCount c) (c .l) (dropletsOn c ws store) (dropletsOn c ws store′) (p .file) (p′ .file) (p .marks) (p′ .marks) (end .ok) (end′ .ok) among i b
       (sym (ap (λ (m : List ℕ). marked m i) (end .sets)) ∙ t)
 
-  pub same-droplets : (shelf shelf′ : LentShelf) → AllAmong (dropletsOn c ws shelf) (dropletsOn c ws shelf′)
-      → AllAmong (dropletsOn c ws shelf′) (dropletsOn c ws shelf) → SameMarks c ws shelf shelf′
-  same-droplets shelf shelf′ there back r r′ file marks file′ marks′ p p′ =
-      let end = ended shelf r file marks p in
-      let end′ = ended shelf′ r′ file′ marks′ p′ in
+  pub same-droplets : (store store′ : LentStore) → AllAmong (dropletsOn c ws store) (dropletsOn c ws store′)
+      → AllAmong (dropletsOn c ws store′) (dropletsOn c ws store) → SameMarks c ws store store′
+  same-droplets store store′ there back r r′ file marks file′ marks′ p p′ =
+      let end = ended store r file marks p in
+      let end′ = ended store′ r′ file′ marks′ p′ in
       ap (take (segmentCount c)) (end .sets)
-      ∙ same-marks (segmentCount c) (c .l) (dropletsOn c ws shelf) (dropletsOn c ws shelf′) (p .file) (p′ .file) (p .marks) (p′ .marks) (end .ok) (end′ .ok) there back
+      ∙ same-marks (segmentCount c) (c .l) (dropletsOn c ws store) (dropletsOn c ws store′) (p .file) (p′ .file) (p .marks) (p′ .marks) (end .ok) (end′ .ok) there back
       ∙ sym (ap (take (segmentCount c)) (end′ .sets))

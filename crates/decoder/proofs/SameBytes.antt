@@ -7,7 +7,7 @@ use Prim.Native.Nat.{ℕ}
 use borrow.Author.Tests.{eqb-true, eq-eqb}
 use lib.Dec.{eqb}
 use Rattle.field.proofs.Tests.{either}
-use Rattle.decoder.specs.Shelf.{sameBytes}
+use Rattle.decoder.specs.Store.{sameBytes}
 
 pub same-eq : (xs ys : List ℕ) → sameBytes xs ys ≡ true → xs ≡ ys
 unfolding sameBytes

@@ -8,7 +8,7 @@ use native.Mathlib.Omega.{arith}
 use lib.Dec.{eqb}
 use lib.ListN.{length, take}
 use Rattle.field.proofs.Tests.{either}
-use Rattle.decoder.specs.Shelf.{Record, found, absent, findSeed}
+use Rattle.decoder.specs.Store.{Record, found, absent, findSeed}
 use Rattle.decoder.specs.Restorer.{hasSeed}
 
 module _ (s : ℕ) where

@@ -6,22 +6,22 @@ use Prim.Native.Nat.{ℕ, _+_, _*_, _≤_, _<_}
 use borrow.Author.Tests.{eq-eqb, ne-eqb}
 use lib.ListN.{length, take}
 use Rattle.field.specs.Bytes.{fromBigEndian}
-use Rattle.decoder.specs.Shelf.{recordFrom}
+use Rattle.decoder.specs.Store.{recordFrom}
 use Rattle.decoder.specs.Restorer.{hasSeed}
 use Rattle.decoder.specs.Loops.{recordAt}
 use Rattle.decoder.proofs.RecordsAt.{recordsFrom, records-next, records-end}
 
-module _ (L count : ℕ) (shelf : List ℕ) (s i : ℕ) where
-  module _ (h : i < count) (fits : count * (4 + L) ≤ length shelf) where
-    pub seed-here : fromBigEndian (take 4 (recordAt L shelf i)) ≡ s → hasSeed s (recordsFrom L count shelf i) ≡ true
+module _ (L count : ℕ) (store : List ℕ) (s i : ℕ) where
+  module _ (h : i < count) (fits : count * (4 + L) ≤ length store) where
+    pub seed-here : fromBigEndian (take 4 (recordAt L store i)) ≡ s → hasSeed s (recordsFrom L count store i) ≡ true
     unfolding hasSeed recordFrom
-    seed-here e = rw (records-next L count shelf i h fits, eq-eqb _ _ e)
+    seed-here e = rw (records-next L count store i h fits, eq-eqb _ _ e)
 
-    pub seed-past : (fromBigEndian (take 4 (recordAt L shelf i)) ≡ s → ⊥)
-        → hasSeed s (recordsFrom L count shelf i) ≡ hasSeed s (recordsFrom L count shelf (i + 1))
+    pub seed-past : (fromBigEndian (take 4 (recordAt L store i)) ≡ s → ⊥)
+        → hasSeed s (recordsFrom L count store i) ≡ hasSeed s (recordsFrom L count store (i + 1))
     unfolding hasSeed recordFrom
-    seed-past n = rw (records-next L count shelf i h fits, ne-eqb _ _ n)
+    seed-past n = rw (records-next L count store i h fits, ne-eqb _ _ n)
 
-  pub seed-end : count ≤ i → hasSeed s (recordsFrom L count shelf i) ≡ false
+  pub seed-end : count ≤ i → hasSeed s (recordsFrom L count store i) ≡ false
   unfolding hasSeed
-  seed-end h = rw (records-end L count shelf i h)
+  seed-end h = rw (records-end L count store i h)

@@ -1,4 +1,4 @@
--- What is said of each segment apart (its number, whether it is marked, and its bytes) holds after a restoration if it holds
+-- What is said of each segment apart (its number, whether it is marked, and its bytes) holds after a peeling if it holds
 -- of unmarked zeros and of what a droplet fills. Assumes nothing.
 use mathlib.Core.Bool.{Bool, true, false}
 use mathlib.Core.List.{List}
@@ -10,7 +10,7 @@ use Rattle.droplet.specs.Droplet.{segment}
 use Rattle.decoder.specs.Restorer.{Droplet, State, marked, filled}
 use Rattle.decoder.proofs.MarkCounts.{marked-same, marked-other}
 use Rattle.decoder.proofs.PlacedSegment.{placed-same, placed-other}
-use Rattle.decoder.proofs.PoolShapes.{Restorable, stateAfter}
+use Rattle.decoder.proofs.PoolShapes.{Peelable, stateAfter}
 use Rattle.decoder.proofs.StepCases.{filling, Fill}
 use Rattle.decoder.proofs.ClearedState.{cleared-marked, cleared-segment}
 use Rattle.decoder.proofs.FillKeeps.{fills-keep}
@@ -32,8 +32,8 @@ module _ (K L : ℕ) (Q : ℕ → Bool → List ℕ → Type 0) (P : Droplet →
             rw (marked-other (st .marks) i j q, placed-other L (st .file) i (filling L d st) (fill .size) (fill .place) j q) (h j b)
       ]
 
-  pub restoration-each : (ds : List Droplet) (file marks : List ℕ) → Restorable K L ds file marks → All P ds
+  pub peelAll-each : (ds : List Droplet) (file marks : List ℕ) → Peelable K L ds file marks → All P ds
       → ((i : ℕ) → i < K → Q i false (replicate L 0)) → Each K L Q (stateAfter K L ds file marks)
-  restoration-each ds file marks ok p zeros =
+  peelAll-each ds file marks ok p zeros =
       fills-keep K L (Each K L Q) P filled-each ds file marks ok p
       (λ i b. rw (cleared-marked K L file marks i b, cleared-segment K L file marks i b) (zeros i b))

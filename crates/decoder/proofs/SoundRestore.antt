@@ -1,4 +1,4 @@
--- A restore that is not refused is sound, over any shelf. Assumes nothing.
+-- A restore that is not refused is sound, over any store. Assumes nothing.
 use mathlib.Core.Path.{_≡_, refl}
 use mathlib.Core.Bool.{Bool, true, false, cond, _&&_}
 use mathlib.Core.List.{List}
@@ -18,17 +18,17 @@ use Rattle.droplet.proofs.LegalCard.{legal}
 use Rattle.droplet.proofs.Sets.{segments-below, segments-distinct}
 use Rattle.decoder.specs.declared.restorer.Sheet.{Sheet}
 use Rattle.decoder.specs.declared.restorer.RestoreAnswer.the-variants as sheet
-use Rattle.decoder.specs.Shelf.{records, countFits}
-use Rattle.decoder.specs.Restorer.{Droplet, droplets, hasSeed, present, Peeled, peeled, peeledPasses, peeledState, restoration, contradictions, restoreRefusal, Restored, restored, refusal, sheetOf, restore, RestorePromise}
+use Rattle.decoder.specs.Store.{records, countFits}
+use Rattle.decoder.specs.Restorer.{Droplet, droplets, hasSeed, present, Peeled, peeled, peeledPasses, peeledState, peelAll, contradictions, restoreRefusal, Restored, restored, refusal, sheetOf, restore, RestorePromise}
 use Rattle.decoder.specs.Demand3.{Sound}
-use Rattle.decoder.proofs.PoolShapes.{Restorable, stateAfter}
-use Rattle.decoder.proofs.PeelingEnds.{restoration-passes}
+use Rattle.decoder.proofs.PoolShapes.{Peelable, stateAfter}
+use Rattle.decoder.proofs.PeelingEnds.{peelAll-passes}
 use Rattle.decoder.proofs.MissingWhen.{missing-when}
 use Rattle.decoder.proofs.PresentRight.{present-right}
 use Rattle.decoder.proofs.WholeFile.{whole}
-use Rattle.decoder.proofs.ShelfDroplets.{droplets-are, droplets-bytes}
+use Rattle.decoder.proofs.StoreDroplets.{droplets-are, droplets-bytes}
 
--- ---- a restoration over droplets of the pool
+-- ---- a peeling over droplets of the pool
 
 -- what peeling ends with is sound
 abbrev pub PeeledSound : ℕ → ℕ → List Droplet → Peeled → Type 0
@@ -36,12 +36,12 @@ PeeledSound K L ds end =
     let st = peeledState end in
     Sound K L ds (present K (st .marks)) (peeledPasses end) (contradictions L ds st) (st .file) (st .marks)
 
-pub restoration-sound : (K L : ℕ) (ds : List Droplet) (file marks : List ℕ) → Restorable K L ds file marks → All (λ d. AllBytes (d .payload)) ds
-    → PeeledSound K L ds (restoration K L ds file marks)
-restoration-sound K L ds file marks ok bytes = record {
+pub peelAll-sound : (K L : ℕ) (ds : List Droplet) (file marks : List ℕ) → Peelable K L ds file marks → All (λ d. AllBytes (d .payload)) ds
+    → PeeledSound K L ds (peelAll K L ds file marks)
+peelAll-sound K L ds file marks ok bytes = record {
   missing-when = missing-when K L ds file marks ok;
   present-right = λ g is gives. present-right K L g ds file marks ok gives;
-  few-passes = restoration-passes K L ds file marks ok;
+  few-passes = peelAll-passes K L ds file marks ok;
   counted = refl;
   whole = whole K L ds file marks ok bytes;
 }
@@ -59,9 +59,9 @@ sheet-says K L ds (peeled n st) p s x says =
 
 -- what it ended with
 pub record Ended (K L : ℕ) (ds : List Droplet) (file marks : List ℕ) (r : Sheet) (file′ marks′ : List ℕ) : Type 0 where
-  pub ok : Restorable K L ds file marks
+  pub ok : Peelable K L ds file marks
   pub presents : r .present ≡ present K (stateAfter K L ds file marks .marks)
-  pub passed : r .passes ≡ peeledPasses (restoration K L ds file marks)
+  pub passed : r .passes ≡ peeledPasses (peelAll K L ds file marks)
   pub differs : r .contradictions ≡ contradictions L ds (stateAfter K L ds file marks)
   pub fills : file′ ≡ stateAfter K L ds file marks .file
   pub sets : marks′ ≡ stateAfter K L ds file marks .marks
@@ -82,11 +82,11 @@ module _ (c : Card) (weights : List ℕ) (fine : cardRefusal c weights ≡ 0) wh
       let right = legal c weights fine .weights in
       (segments-below weights (segmentCount c) seed (right .sum-least) (right .degrees-segments), segments-distinct weights (segmentCount c) seed)
 
-  pub restorable : (buffer : List ℕ) (count : ℕ) (file marks : List ℕ) (listLength : ℕ)
+  pub peelable : (buffer : List ℕ) (count : ℕ) (file marks : List ℕ) (listLength : ℕ)
       → restoreRefusal c weights buffer count (length file) (length marks) listLength ≡ 0
-      → Restorable (segmentCount c) (c .l) (droplets c weights buffer count) file marks
+      → Peelable (segmentCount c) (c .l) (droplets c weights buffer count) file marks
   unfolding restoreRefusal
-  restorable buffer count file marks listLength e =
+  peelable buffer count file marks listLength e =
       let yes = none-says-no (countFits (c .l) buffer count) (hasSeed 0 (records (c .l) count buffer)) (leb (segmentCount c * c .l) (length file))
       (leb (segmentCount c) (length marks)) (leb (weightCount weights) listLength) (rw fine at e) in
       record {
@@ -105,9 +105,9 @@ module _ (c : Card) (weights : List ℕ) (fine : cardRefusal c weights ≡ 0) wh
       let no = restoreRefusal c weights buffer count (length file) (length marks) (length list) in
       elim (either (eqb no 0)) [
         | inl t ↦
-            let numbers = sheet-says K (c .l) ds (restoration K (c .l) ds file marks) (r .present) (r .passes) (r .contradictions) (rw t at (p .says)) in
+            let numbers = sheet-says K (c .l) ds (peelAll K (c .l) ds file marks) (r .present) (r .passes) (r .contradictions) (rw t at (p .says)) in
             record {
-              ok = restorable buffer count file marks (length list) (eqb-true no 0 t);
+              ok = peelable buffer count file marks (length list) (eqb-true no 0 t);
               presents = numbers .0;
               passed = numbers .1;
               differs = numbers .2;
@@ -126,4 +126,4 @@ module _ (c : Card) (weights : List ℕ) (fine : cardRefusal c weights ≡ 0) wh
   restore-sound buffer count file marks list r file′ marks′ list′ bytes p =
       let end = restore-ends buffer count file marks list r file′ marks′ list′ p in
       rw (end .presents, end .passed, end .differs, end .fills, end .sets)
-      (restoration-sound (segmentCount c) (c .l) (droplets c weights buffer count) file marks (end .ok) (droplets-bytes c weights buffer count bytes))
+      (peelAll-sound (segmentCount c) (c .l) (droplets c weights buffer count) file marks (end .ok) (droplets-bytes c weights buffer count bytes))

@@ -10,7 +10,7 @@ use Rattle.field.specs.Bytes.{xorLists}
 use Rattle.field.proofs.ByteLists.{xorLists-length}
 use Rattle.droplet.specs.Droplet.{payload}
 use Rattle.droplet.proofs.Payload.{payload-length}
-use Rattle.decoder.specs.Restorer.{Droplet, State, marked, missing, recovered, filled, filledBy, step}
+use Rattle.decoder.specs.Restorer.{Droplet, State, marked, missing, known, filled, filledBy, step}
 use Rattle.decoder.proofs.MissingSegments.{missing-one}
 use Rattle.decoder.proofs.PlacedSegment.{placed-length}
 use Rattle.decoder.proofs.PoolShapes.{IsDroplet, Sized}
@@ -30,7 +30,7 @@ step-cases L d st = of (missing (st .marks) (d .segments)) refl
 
 -- what a droplet fills its one missing segment with
 abbrev pub filling : ℕ → Droplet → State → List ℕ
-filling L d st = xorLists (d .payload) (payload L (st .file) (recovered (st .marks) (d .segments)))
+filling L d st = xorLists (d .payload) (payload L (st .file) (known (st .marks) (d .segments)))
 
 -- what is known where a droplet fills segment i
 pub record Fill (K L : ℕ) (d : Droplet) (st : State) (i : ℕ) : Type 0 where
@@ -46,7 +46,7 @@ module _ (K L : ℕ) (d : Droplet) (st : State) (w : IsDroplet K L d) (s : Sized
   pub fill-known : (i : ℕ) → missing (st .marks) (d .segments) ≡ i ∷ [] → Fill K L d st i
   fill-known i e =
       let one = missing-one (st .marks) K i (d .segments) (w .below) e in
-      let known = payload L (st .file) (recovered (st .marks) (d .segments)) in
+      let sum = payload L (st .file) (known (st .marks) (d .segments)) in
       record {
         droplet = w;
         only = e;
@@ -54,7 +54,7 @@ module _ (K L : ℕ) (d : Droplet) (st : State) (w : IsDroplet K L d) (s : Sized
         unmarked = one .1;
         markFits = omega (arith, one .0);
         place = omega (arith, mul-le-mul-right L (one .0));
-        size = xorLists-length (d .payload) known (w .size ∙ sym (payload-length L (st .file) (recovered (st .marks) (d .segments)))) ∙ w .size;
+        size = xorLists-length (d .payload) sum (w .size ∙ sym (payload-length L (st .file) (known (st .marks) (d .segments)))) ∙ w .size;
       }
 
   -- the sizes of the buffers stay

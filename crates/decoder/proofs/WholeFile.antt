@@ -11,7 +11,7 @@ use lib.Seq.{length-take-le}
 use Rattle.field.specs.Bytes.{All, AllBytes}
 use Rattle.field.proofs.Tests.{either}
 use Rattle.droplet.specs.Droplet.{segment, payload}
-use Rattle.decoder.specs.Shelf.{sameBytes}
+use Rattle.decoder.specs.Store.{sameBytes}
 use Rattle.decoder.specs.Restorer.{Droplet, State, marked, present, contradicts, contradictions}
 use Rattle.decoder.specs.Demand3.{IsFile, GivesAll}
 use Rattle.decoder.proofs.AllOf.{all-map}
@@ -19,8 +19,8 @@ use Rattle.decoder.proofs.MarkCounts.{present-all}
 use Rattle.decoder.proofs.MissingSegments.{missing-none}
 use Rattle.decoder.proofs.SameBytes.{same-eq, eq-same}
 use Rattle.decoder.proofs.PlacedSegment.{segment-front}
-use Rattle.decoder.proofs.PoolShapes.{IsDroplet, Restorable, stateAfter}
-use Rattle.decoder.proofs.FillKeeps.{restoration-sized}
+use Rattle.decoder.proofs.PoolShapes.{IsDroplet, Peelable, stateAfter}
+use Rattle.decoder.proofs.FillKeeps.{peelAll-sized}
 use Rattle.decoder.proofs.PayloadParts.{payload-same}
 use Rattle.decoder.proofs.PresentRight.{present-right}
 use Rattle.decoder.proofs.FileBytes.{segments-bytes, joined-bytes}
@@ -45,7 +45,7 @@ gives-same K L f g same [] w v = tt
 gives-same K L f g same (d ∷ ds) w v =
     (sym (payload-same L f g (d .segments) (all-map _ _ same (d .segments) (w .0 .below))) ∙ v .0, gives-same K L f g same ds (w .1) (v .1))
 
-module _ (K L : ℕ) (ds : List Droplet) (file marks : List ℕ) (ok : Restorable K L ds file marks) (bytes : All (λ d. AllBytes (d .payload)) ds) where
+module _ (K L : ℕ) (ds : List Droplet) (file marks : List ℕ) (ok : Peelable K L ds file marks) (bytes : All (λ d. AllBytes (d .payload)) ds) where
   pub whole : present K (stateAfter K L ds file marks .marks) ≡ K
       → (contradictions L ds (stateAfter K L ds file marks) ≡ 0) ↔ ((g : List ℕ) × IsFile K L g × GivesAll L g ds)
   whole p =
@@ -55,7 +55,7 @@ module _ (K L : ℕ) (ds : List Droplet) (file marks : List ℕ) (ok : Restorabl
         (λ z. (
           take (K * L) (st .file),
           record {
-            size = length-take-le (K * L) (st .file) (restoration-sized K L ds file marks ok .file);
+            size = length-take-le (K * L) (st .file) (peelAll-sized K L ds file marks ok .file);
             bytes = joined-bytes K L (st .file) (segments-bytes K L ds file marks ok bytes);
           },
           gives-same K L (st .file) (take (K * L) (st .file))

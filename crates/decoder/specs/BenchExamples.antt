@@ -17,9 +17,9 @@ use Rattle.strand.specs.Letters.{letterOf, letterBits, allLetters, byteBases, w
 use Rattle.strand.specs.Screen.{longestFrom, longestRun, gcCount, withinLimits, screenPasses}
 use Rattle.strand.specs.ReadCheck.{Reading, droplet, refused, sumsZero, wordReading, lettersReading, readCheck, strandWord}
 use Rattle.strand.specs.Writer.{seedWord}
-use Rattle.decoder.specs.Shelf.{accepted, repeat, Kept, kept, recordFrom, records, sameBytes, findSeed, appended, compared, shelvedReading, shelving}
-use Rattle.decoder.specs.Shelf.Shelved.{refusal}
-use Rattle.decoder.specs.Restorer.{droplets, marked, missing, recovered, filled, filledBy, step, pass, present, peel, cleared, restoration, contradicts, contradictions, hasSeed, restoreRefusal, restored, Restoring, restoring, restore}
+use Rattle.decoder.specs.Store.{accepted, repeat, Kept, kept, recordFrom, records, sameBytes, findSeed, appended, compared, storeReading, storeRead}
+use Rattle.decoder.specs.Store.Stored.{refusal}
+use Rattle.decoder.specs.Restorer.{droplets, marked, missing, known, filled, filledBy, step, pass, present, peel, cleared, peelAll, contradicts, contradictions, hasSeed, restoreRefusal, restored, RestoreEnd, restoreEnd, restore}
 
 -- card P with another m and lo, D weights of one value (P's are 2 of value 1), and file Q
 abbrev pub cardP : ℕ → ℕ → Card
@@ -41,14 +41,14 @@ pub data Row : Type 0 where
   reads : ℕ → ℕ → List ℕ → Reading → Row
   steps : ℕ → ℕ → Row
   answers : List ℕ → ℕ → Row
-  restores : List (List ℕ) → Restoring → Row
+  restores : List (List ℕ) → RestoreEnd → Row
 
 -- the first numbers drawn from a state, as many as the list has
 abbrev pub drawnFrom : Draw → List ℕ → List ℕ
 drawnFrom d [] = []
 drawnFrom d (n ∷ ns) = numberDrawn (afterDraw d) ∷ drawnFrom (afterDraw d) ns
 
--- the shelf after reads that are offered in this order
+-- the store after reads that are offered in this order
 abbrev pub counted : ℕ → Kept → ℕ
 counted count (kept (accepted n) buffer) = n
 counted count (kept (repeat n) buffer) = n
@@ -57,10 +57,10 @@ counted count (kept (refusal q) buffer) = count
 abbrev pub held : Kept → List ℕ
 held (kept a buffer) = buffer
 
-abbrev pub restoredAfter : List (List ℕ) → List ℕ → ℕ → Restoring
-restoredAfter [] buffer count = restore (cardP 15 214) (weights 2 1) buffer count (9 ∷ 9 ∷ 9 ∷ 9 ∷ []) (9 ∷ 9 ∷ 9 ∷ 9 ∷ []) 2
-restoredAfter (r ∷ rs) buffer count =
-    let after = shelving (cardP 15 214) (weights 2 1) buffer count r in restoredAfter rs (held after) (counted count after)
+abbrev pub restoreAfter : List (List ℕ) → List ℕ → ℕ → RestoreEnd
+restoreAfter [] buffer count = restore (cardP 15 214) (weights 2 1) buffer count (9 ∷ 9 ∷ 9 ∷ 9 ∷ []) (9 ∷ 9 ∷ 9 ∷ 9 ∷ []) 2
+restoreAfter (r ∷ rs) buffer count =
+    let after = storeRead (cardP 15 214) (weights 2 1) buffer count r in restoreAfter rs (held after) (counted count after)
 
 abbrev pub Holds : Row → Type 0
 Holds (draws s ns) = drawnFrom (ofSeed s) ns ≡ ns
@@ -73,7 +73,7 @@ Holds (prints seed word letters longest g) =
 Holds (reads m lo letters reading) = readCheck (cardP m lo) (weights 2 1) letters ≡ reading
 Holds (steps s t) = seedAfter s ≡ t
 Holds (answers ws n) = cardRefusal (cardP 15 214) ws ≡ n
-Holds (restores offered end) = restoredAfter offered (replicate 20 7) 0 ≡ end
+Holds (restores offered end) = restoreAfter offered (replicate 20 7) 0 ≡ end
 
 -- the strands of seeds 1, 2 and 3
 abbrev pub letters1 : List ℕ
@@ -107,11 +107,11 @@ rows =
     ∷ answers (weights 5 1) 4
     ∷ answers (weights 2 0) 4
     ∷ restores (letters2 ∷ letters1 ∷ letters3 ∷ [])
-    (restoring (restored 3 3 0) (record { file = 0x00 ∷ 0x27 ∷ 0x4E ∷ 0xE4 ∷ []; marks = 0 ∷ 1 ∷ 1 ∷ 1 ∷ [] }))
+    (restoreEnd (restored 3 3 0) (record { file = 0x00 ∷ 0x27 ∷ 0x4E ∷ 0xE4 ∷ []; marks = 0 ∷ 1 ∷ 1 ∷ 1 ∷ [] }))
     ∷ []
 
 pub examples : All Holds rows
-unfolding seedAfter seedWord segmentsOf degreeOf degree degreeFrom pickFrom member ofSeed afterDraw numberDrawn xorshift segment payload padded strandWord toBigEndian fromBigEndian parity remainderAfter xorLists multiple byRoot timesPower double shiftUp horner syndromes cardRefusal sizesRight limitsRight weightsRight segmentCount strandBytes firstWeights weightAt numberAt letterOf letterBits allLetters byteBases wordBases byteLetters wordLetters lettersByte lettersWord longestFrom longestRun gcCount withinLimits screenPasses sumsZero wordReading lettersReading readCheck recordFrom records sameBytes findSeed appended compared shelvedReading shelving droplets marked missing recovered filled filledBy step pass present peel cleared restoration contradicts contradictions hasSeed restoreRefusal restore
+unfolding seedAfter seedWord segmentsOf degreeOf degree degreeFrom pickFrom member ofSeed afterDraw numberDrawn xorshift segment payload padded strandWord toBigEndian fromBigEndian parity remainderAfter xorLists multiple byRoot timesPower double shiftUp horner syndromes cardRefusal sizesRight limitsRight weightsRight segmentCount strandBytes firstWeights weightAt numberAt letterOf letterBits allLetters byteBases wordBases byteLetters wordLetters lettersByte lettersWord longestFrom longestRun gcCount withinLimits screenPasses sumsZero wordReading lettersReading readCheck recordFrom records sameBytes findSeed appended compared storeReading storeRead droplets marked missing known filled filledBy step pass present peel cleared peelAll contradicts contradictions hasSeed restoreRefusal restore
 examples = (
   refl,
   (

@@ -1,4 +1,4 @@
--- Demand 3, as one claim about every list of shelving calls and every restore under one accepted card. Assumes nothing.
+-- Demand 3, as one claim about every list of store calls and every restore under one accepted card. Assumes nothing.
 use mathlib.Core.Path.{_≡_}
 use mathlib.Core.Logic.{_↔_}
 use mathlib.Core.Bool.{Bool, true, false, cond}
@@ -11,14 +11,14 @@ use Rattle.droplet.specs.PoolCard.{segmentCount, cardWeights}
 use Rattle.droplet.specs.Questions.{accepted, cardReading}
 use Rattle.droplet.specs.Droplet.{segment, payload, segmentsOf, Distinct}
 use Rattle.strand.specs.ReadCheck.{Reading, droplet, refused, readCheck}
-use Rattle.decoder.specs.declared.shelf.StoreAnswer.{StoreAnswer}
-use Rattle.decoder.specs.declared.shelf.StoreAnswer.the-variants as store
+use Rattle.decoder.specs.declared.store.StoreAnswer.{StoreAnswer}
+use Rattle.decoder.specs.declared.store.StoreAnswer.the-variants as reply
 use Rattle.decoder.specs.declared.restorer.Sheet.{Sheet}
 use Rattle.decoder.specs.declared.restorer.RestoreAnswer.the-variants as sheet
-use Rattle.decoder.specs.Shelf.{Record, recordsText, StorePromise}
+use Rattle.decoder.specs.Store.{Record, recordsText, StorePromise}
 use Rattle.decoder.specs.Restorer.{Droplet, droplets, marked, hasSeed, present, RestorePromise}
 
--- ---- the shelf
+-- ---- the store
 
 -- "keep the legal ones", in the order offered
 abbrev pub keptReading : Reading → List Record → List Record
@@ -35,8 +35,8 @@ firstOfSeed seen [] = []
 firstOfSeed seen (r ∷ rs) = cond (hasSeed (r .seed) seen) (firstOfSeed seen rs) (r ∷ firstOfSeed (seen ++ (r ∷ [])) rs)
 
 -- "and of these only the first ones, as many as whole records fit the buffer"
-unfoldable pub shelfRecords : Card → List ℕ → List ℕ → List (List ℕ) → List Record
-shelfRecords c weights lent reads = take (length lent / (4 + c .l)) (firstOfSeed [] (legalReads c weights reads))
+unfoldable pub storedRecords : Card → List ℕ → List ℕ → List (List ℕ) → List Record
+storedRecords c weights lent reads = take (length lent / (4 + c .l)) (firstOfSeed [] (legalReads c weights reads))
 
 -- "The count is their number, the records have their seeds and payloads in that order, and the bytes past the records are
 -- as they were lent"
@@ -44,7 +44,7 @@ pub record Holds (L : ℕ) (lent : List ℕ) (rs : List Record) (buffer : List �
   pub number : count ≡ length rs
   pub bytes : buffer ≡ recordsText rs ++ drop (length rs * (4 + L)) lent
 
--- one shelving call: the read offered, the answer, and the buffer after it
+-- one store call: the read offered, the answer, and the buffer after it
 pub record Call : Type 0 where
   pub read : List ℕ
   pub answer : StoreAnswer
@@ -57,11 +57,11 @@ readsOf (k ∷ ks) = k .read ∷ readsOf ks
 -- "Every answer but a refusal carries the count after it, which the next call is handed; after a refusal the next call is
 -- handed the count from before"
 abbrev pub nextCount : ℕ → StoreAnswer → ℕ
-nextCount count (store.Accepted n) = n
-nextCount count (store.Repeat n) = n
-nextCount count (store.Refused q) = count
+nextCount count (reply.Accepted n) = n
+nextCount count (reply.Repeat n) = n
+nextCount count (reply.Refused q) = count
 
--- "Each call is handed shelf and count as the one before left them", and keeps the promise of the shelving call
+-- "Each call is handed shelf and count as the one before left them", and keeps the promise of the store call
 unfoldable pub Chained : Card → List ℕ → List ℕ → ℕ → List Call → Type 0
 Chained c weights buffer count [] = Unit {0}
 Chained c weights buffer count (k ∷ ks) =
@@ -113,15 +113,15 @@ pub record Sound (K L : ℕ) (ds : List Droplet) (p s x : ℕ) (file′ marks′
 -- ---- the claim
 
 pub record Claim (c : Card) (weights : List ℕ) : Type 0 where
-  -- every list of shelving calls from an empty shelf, a buffer of any length and bytes
-  pub shelf : (lent : List ℕ) (calls : List Call) → Chained c weights lent 0 calls
-      → Holds (c .l) lent (shelfRecords c weights lent (readsOf calls)) (lastBuffer lent calls) (lastCount 0 calls)
+  -- every list of store calls from an empty store, a buffer of any length and bytes
+  pub store : (lent : List ℕ) (calls : List Call) → Chained c weights lent 0 calls
+      → Holds (c .l) lent (storedRecords c weights lent (readsOf calls)) (lastBuffer lent calls) (lastCount 0 calls)
   -- such a list of calls exists for every list of reads, whatever bytes each offers
   pub calls : (lent : List ℕ) (reads : List (List ℕ)) → (calls : List Call) × Chained c weights lent 0 calls × (readsOf calls ≡ reads)
   -- the sets that seeds pick hold each segment once, and only segments of the pool
   pub sets : (seed : ℕ) → All (λ s. s < segmentCount c) (segmentsOf weights (segmentCount c) seed)
       × Distinct (segmentsOf weights (segmentCount c) seed)
-  -- every restore that is not refused, over this shelf or any other
+  -- every restore that is not refused, over this store or any other
   pub back : (buffer : List ℕ) (count : ℕ) (file marks list : List ℕ) (r : Sheet) (file′ marks′ list′ : List ℕ) → AllBytes buffer
       → RestorePromise c weights buffer count file marks list (sheet.Restored r) file′ marks′ list′
       → Sound (segmentCount c) (c .l) (droplets c weights buffer count) (r .present) (r .passes) (r .contradictions) file′ marks′

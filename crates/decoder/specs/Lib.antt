@@ -1,4 +1,4 @@
-pub mod Shelf
+pub mod Store
 pub mod Restorer
 pub mod Demand3
 pub mod Vault

@@ -15,19 +15,19 @@ use Rattle.decoder.specs.declared.restorer.Unmarked.the-variants as unma
 use Rattle.decoder.specs.declared.restorer.Drawn.{Drawn}
 use Rattle.decoder.specs.declared.restorer.Peeling.{Peeling}
 use Rattle.decoder.specs.declared.restorer.Sheet.{Sheet}
-use Rattle.decoder.specs.Shelf.{Record, records, countFits}
+use Rattle.decoder.specs.Store.{Record, records, countFits}
 use Rattle.decoder.specs.Restorer.{Droplet, State, missing, present, Peeled, peeled, peeledState, hasSeed, restored, sheetOf}
 
--- the bytes of record i of a shelf
+-- the bytes of record i of a store
 unfoldable pub recordAt : ℕ → List ℕ → ℕ → List ℕ
-recordAt L shelf i = take (4 + L) (drop (i * (4 + L)) shelf)
+recordAt L store i = take (4 + L) (drop (i * (4 + L)) store)
 
--- the droplet of a record, and those of the first records of a shelf, by the numbers of a card
+-- the droplet of a record, and those of the first records of a store, by the numbers of a card
 unfoldable pub dropletOf : List ℕ → ℕ → Record → Droplet
 dropletOf weights K r = record { segments = segmentsOf weights K (r .seed); payload = r .payload }
 
 unfoldable pub dropletsOf : List ℕ → ℕ → ℕ → ℕ → List ℕ → List Droplet
-dropletsOf weights K L count shelf = map (dropletOf weights K) (records L count shelf)
+dropletsOf weights K L count store = map (dropletOf weights K) (records L count store)
 
 -- the missing segments of a set, as far as a step asks: none, one or more
 unfoldable pub unmarkedOf : List ℕ → Unmarked
@@ -80,14 +80,14 @@ pub record Ended (K : ℕ) (weights : List ℕ) (end : Peeled) (list file′ mar
   pub rest : drop (weightCount weights) list′ ≡ drop (weightCount weights) list
 
 -- the sheet of the passes' end
-pub record Recovered (K L : ℕ) (weights : List ℕ) (ds : List Droplet) (end : Peeled) (list file′ marks′ list′ : List ℕ) (r : Sheet) : Type 0 where
+pub record MadeSheet (K L : ℕ) (weights : List ℕ) (ds : List Droplet) (end : Peeled) (list file′ marks′ list′ : List ℕ) (r : Sheet) : Type 0 where
   pub sheet : restored (r .present) (r .passes) (r .contradictions) ≡ sheetOf K L ds end
   pub state : record { file = file′; marks = marks′ } ≡ peeledState end
   pub rest : drop (weightCount weights) list′ ≡ drop (weightCount weights) list
 
 -- the questions 14, 17, 18 and 8, by K, L and D
 unfoldable pub laterRefusal : ℕ → ℕ → ℕ → List ℕ → ℕ → ℕ → ℕ → ℕ → ℕ
-laterRefusal K L D shelf count fileLength marksLength listLength =
-    cond (countFits L shelf count)
-    (cond (hasSeed 0 (records L count shelf)) 17
+laterRefusal K L D store count fileLength marksLength listLength =
+    cond (countFits L store count)
+    (cond (hasSeed 0 (records L count store)) 17
     (cond (leb (K * L) fileLength && leb K marksLength) (cond (leb D listLength) 0 8) 18)) 14

@@ -12,7 +12,7 @@ use Rattle.droplet.specs.Questions.{cardRefusal}
 use Rattle.droplet.specs.Droplet.{segmentsOf, payload}
 use Rattle.decoder.specs.declared.restorer.RestoreAnswer.{RestoreAnswer}
 use Rattle.decoder.specs.declared.restorer.RestoreAnswer.the-variants as answer
-use Rattle.decoder.specs.Shelf.{Record, records, sameBytes, countFits}
+use Rattle.decoder.specs.Store.{Record, records, sameBytes, countFits}
 
 -- "The droplets on a shelf are its records, each with the set that its seed picks"
 pub record Droplet : Type 0 where
@@ -37,14 +37,14 @@ unfoldable pub missing : List ℕ → List ℕ → List ℕ
 missing marks [] = []
 missing marks (s ∷ ss) = cond (marked marks s) (missing marks ss) (s ∷ missing marks ss)
 
-unfoldable pub recovered : List ℕ → List ℕ → List ℕ
-recovered marks [] = []
-recovered marks (s ∷ ss) = cond (marked marks s) (s ∷ recovered marks ss) (recovered marks ss)
+unfoldable pub known : List ℕ → List ℕ → List ℕ
+known marks [] = []
+known marks (s ∷ ss) = cond (marked marks s) (s ∷ known marks ss) (known marks ss)
 
 -- "fills it with the payload XOR its marked segments, and marks it 1"
 unfoldable pub filled : ℕ → Droplet → State → ℕ → State
 filled L d st i = record {
-  file = take (i * L) (st .file) ++ (xorLists (d .payload) (payload L (st .file) (recovered (st .marks) (d .segments))) ++ drop (i * L + L) (st .file));
+  file = take (i * L) (st .file) ++ (xorLists (d .payload) (payload L (st .file) (known (st .marks) (d .segments))) ++ drop (i * L + L) (st .file));
   marks = set (st .marks) i 1;
 }
 
@@ -89,8 +89,8 @@ unfoldable pub cleared : ℕ → ℕ → List ℕ → List ℕ → State
 cleared K L file marks = record { file = replicate (K * L) 0 ++ drop (K * L) file; marks = replicate K 0 ++ drop K marks }
 
 -- each pass but the last fills a segment, so K + 1 passes are enough
-unfoldable pub restoration : ℕ → ℕ → List Droplet → List ℕ → List ℕ → Peeled
-restoration K L ds file marks = peel (suc K) K L ds 0 (cleared K L file marks)
+unfoldable pub peelAll : ℕ → ℕ → List Droplet → List ℕ → List ℕ → Peeled
+peelAll K L ds file marks = peel (suc K) K L ds 0 (cleared K L file marks)
 
 -- "records whose segments are all marked but whose XOR differs from the payload"
 abbrev pub isNil : List ℕ → Bool
@@ -132,28 +132,28 @@ abbrev pub sheetOf : ℕ → ℕ → List Droplet → Peeled → Restored
 sheetOf K L ds (peeled n st) = restored (present K (st .marks)) n (contradictions L ds st)
 
 -- the answer with file and marks after the call
-pub data Restoring : Type 0 where
-  restoring : Restored → State → Restoring
+pub data RestoreEnd : Type 0 where
+  restoreEnd : Restored → State → RestoreEnd
 
-abbrev pub restoringAnswer : Restoring → Restored
-restoringAnswer (restoring a st) = a
+abbrev pub endAnswer : RestoreEnd → Restored
+endAnswer (restoreEnd a st) = a
 
-abbrev pub restoringState : Restoring → State
-restoringState (restoring a st) = st
+abbrev pub endState : RestoreEnd → State
+endState (restoreEnd a st) = st
 
-unfoldable pub restore : Card → List ℕ → List ℕ → ℕ → List ℕ → List ℕ → ℕ → Restoring
+unfoldable pub restore : Card → List ℕ → List ℕ → ℕ → List ℕ → List ℕ → ℕ → RestoreEnd
 restore c weights buffer count file marks listLength =
     let ds = droplets c weights buffer count in
-    let end = restoration (segmentCount c) (c .l) ds file marks in
+    let end = peelAll (segmentCount c) (c .l) ds file marks in
     let no = restoreRefusal c weights buffer count (length file) (length marks) listLength in
-    cond (eqb no 0) (restoring (sheetOf (segmentCount c) (c .l) ds end) (peeledState end))
-    (restoring (refusal no) (record { file = file; marks = marks }))
+    cond (eqb no 0) (restoreEnd (sheetOf (segmentCount c) (c .l) ds end) (peeledState end))
+    (restoreEnd (refusal no) (record { file = file; marks = marks }))
 
 -- the promise of a restore: its answer, file and marks at exit, and the number list, free in its first D places alone
 pub record RestorePromise (c : Card) (weights buffer : List ℕ) (count : ℕ) (file marks list : List ℕ) (r : RestoreAnswer)
     (file′ marks′ list′ : List ℕ) : Type 0 where
-  pub says : restoreAnswer r ≡ restoringAnswer (restore c weights buffer count file marks (length list))
-  pub fills : file′ ≡ restoringState (restore c weights buffer count file marks (length list)) .file
-  pub sets : marks′ ≡ restoringState (restore c weights buffer count file marks (length list)) .marks
+  pub says : restoreAnswer r ≡ endAnswer (restore c weights buffer count file marks (length list))
+  pub fills : file′ ≡ endState (restore c weights buffer count file marks (length list)) .file
+  pub sets : marks′ ≡ endState (restore c weights buffer count file marks (length list)) .marks
   pub keeps : drop (weightCount weights) list′ ≡ drop (weightCount weights) list
   pub untouched : eqb (restoreRefusal c weights buffer count (length file) (length marks) (length list)) 0 ≡ false → list′ ≡ list

@@ -5,12 +5,12 @@ use Prim.Native.Nat.{ℕ, _+_, _*_, _≤_}
 use lib.ListN.{length, take, drop}
 use Rattle.strand.specs.declared.read_check.ReadOutcome.{ReadOutcome}
 use Rattle.strand.specs.declared.read_check.ReadOutcome.the-variants as outcome
-use Rattle.decoder.specs.declared.shelf.Place.{Place}
-use Rattle.decoder.specs.declared.shelf.Place.the-variants.{At, Nowhere}
-use Rattle.decoder.specs.declared.shelf.StoreAnswer.{StoreAnswer}
-use Rattle.decoder.specs.Shelf.{Kept, found, absent, findSeed, records, storeAnswer, keptAnswer, keptBuffer}
+use Rattle.decoder.specs.declared.store.Place.{Place}
+use Rattle.decoder.specs.declared.store.Place.the-variants.{At, Nowhere}
+use Rattle.decoder.specs.declared.store.StoreAnswer.{StoreAnswer}
+use Rattle.decoder.specs.Store.{Kept, found, absent, findSeed, records, storeAnswer, keptAnswer, keptBuffer}
 
--- a shelf of `count` records with L payload bytes each
+-- a store of `count` records with L payload bytes each
 pub record Within (L count : ℕ) (buffer : List ℕ) : Type 0 where
   pub short : L ≤ 64
   pub fits : count * (4 + L) ≤ length buffer
@@ -21,7 +21,7 @@ Sought L count buffer seed (At at) =
     (at + (4 + L) ≤ length buffer) × (findSeed seed (records L count buffer) ≡ found (take L (drop (at + 4) buffer)))
 Sought L count buffer seed Nowhere = findSeed seed (records L count buffer) ≡ absent
 
--- the answer and the buffer after it are those of a shelving step
+-- the answer and the buffer after it are those of a storing step
 pub record Keeps (k : Kept) (r : StoreAnswer) (buffer′ : List ℕ) : Type 0 where
   pub says : storeAnswer r ≡ keptAnswer k
   pub leaves : buffer′ ≡ keptBuffer k

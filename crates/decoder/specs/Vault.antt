@@ -1,4 +1,4 @@
--- From file to vault and back: what a shelf and its restore sheet are worth where every legal read is a strand that the writer
+-- From file to vault and back: what a store and its restore sheet are worth where every legal read is a strand that the writer
 -- printed for one file. Reads may be lost, repeated and in any order, and what the read check refuses may be anything.
 -- Assumes nothing.
 use mathlib.Core.Path.{_≡_}
@@ -16,10 +16,10 @@ use Rattle.strand.specs.declared.writer.Run.{Run}
 use Rattle.strand.specs.declared.writer.WriteAnswer.the-variants as writer
 use Rattle.strand.specs.ReadCheck.{droplet, readCheck}
 use Rattle.strand.specs.Writer.{WriterPromise}
-use Rattle.decoder.specs.declared.shelf.StoreAnswer.the-variants as store
+use Rattle.decoder.specs.declared.store.StoreAnswer.the-variants as reply
 use Rattle.decoder.specs.declared.restorer.Sheet.{Sheet}
 use Rattle.decoder.specs.declared.restorer.RestoreAnswer.the-variants as sheet
-use Rattle.decoder.specs.Shelf.{Record}
+use Rattle.decoder.specs.Store.{Record}
 use Rattle.decoder.specs.Restorer.{Droplet, droplets, marked, present, RestorePromise}
 use Rattle.decoder.specs.Demand3.{legalReads, firstOfSeed, Call, readsOf, Chained, lastBuffer, lastCount, GivesAll}
 
@@ -33,18 +33,18 @@ abbrev pub AllAmong : {A : Type 0} → List A → List A → Type 0
 AllAmong {A} xs ys = (x : A) → Among x xs → Among x ys
 
 -- "A shelf is a lent buffer and a count of records from its start"
-pub record LentShelf : Type 0 where
+pub record LentStore : Type 0 where
   pub buffer : List ℕ
   pub count : ℕ
 
--- the shelf that calls leave of an empty one
-abbrev pub shelfAfter : List ℕ → List Call → LentShelf
-shelfAfter lent calls = record { buffer = lastBuffer lent calls; count = lastCount 0 calls }
+-- the store that calls leave of an empty one
+abbrev pub storeAfter : List ℕ → List Call → LentStore
+storeAfter lent calls = record { buffer = lastBuffer lent calls; count = lastCount 0 calls }
 
 module _ (c : Card) (weights : List ℕ) where
   -- "The droplets on a shelf are its records, each with the set that its seed picks"
-  abbrev pub dropletsOn : LentShelf → List Droplet
-  dropletsOn shelf = droplets c weights (shelf .buffer) (shelf .count)
+  abbrev pub dropletsOn : LentStore → List Droplet
+  dropletsOn store = droplets c weights (store .buffer) (store .count)
 
   -- the payload that a file gives for a seed
   abbrev pub payloadFor : List ℕ → ℕ → List ℕ
@@ -58,7 +58,7 @@ module _ (c : Card) (weights : List ℕ) where
   abbrev pub RoomForAll : List ℕ → List Call → Type 0
   RoomForAll lent calls = length (firstOfSeed [] (legalOf calls)) * (4 + c .l) ≤ length lent
 
-  -- ---- the premises: what the writer printed, what was shelved, what was restored
+  -- ---- the premises: what the writer printed, what was stored, what was restored
 
   -- a strand that the writer prints for a file: the n letters of a line that a call, not refused, left in its buffer
   pub record PrintedStrand (file read : List ℕ) : Type 0 where
@@ -81,20 +81,20 @@ module _ (c : Card) (weights : List ℕ) where
   abbrev pub LegalPrinted : List ℕ → List (List ℕ) → Type 0
   LegalPrinted file reads = All (λ read. (s : ℕ) (p : List ℕ) → readCheck c weights read ≡ droplet s p → PrintedStrand file read) reads
 
-  -- a job: a file of F bytes, and shelving calls from an empty shelf, a buffer of any length and bytes
+  -- a job: a file of F bytes, and store calls from an empty store, a buffer of any length and bytes
   pub record Job (file lent : List ℕ) (calls : List Call) : Type 0 where
     pub size : length file ≡ c .f
     pub bytes : AllBytes file
     pub chained : Chained c weights lent 0 calls
     pub printed : LegalPrinted file (readsOf calls)
 
-  -- a restore over a shelf, not refused: it answers a sheet, and leaves a file and marks
-  pub record Restores (shelf : LentShelf) (r : Sheet) (file′ marks′ : List ℕ) : Type 0 where
+  -- a restore over a store, not refused: it answers a sheet, and leaves a file and marks
+  pub record SheetFrom (store : LentStore) (r : Sheet) (file′ marks′ : List ℕ) : Type 0 where
     pub file : List ℕ
     pub marks : List ℕ
     pub list : List ℕ
     pub list′ : List ℕ
-    pub promise : RestorePromise c weights (shelf .buffer) (shelf .count) file marks list (sheet.Restored r) file′ marks′ list′
+    pub promise : RestorePromise c weights (store .buffer) (store .count) file marks list (sheet.Restored r) file′ marks′ list′
 
   -- ---- the claim
 
@@ -109,16 +109,16 @@ module _ (c : Card) (weights : List ℕ) where
     -- with all present, the customer's file is back
     pub whole : r .present ≡ segmentCount c → take (c .f) file′ ≡ file
 
-  -- what any restore of one shelf leaves present, any restore of another leaves present too
-  abbrev pub NoBetter : LentShelf → LentShelf → Type 0
-  NoBetter shelf shelf′ =
-      (r r′ : Sheet) (file marks file′ marks′ : List ℕ) → Restores shelf r file marks → Restores shelf′ r′ file′ marks′
+  -- what any restore of one store leaves present, any restore of another leaves present too
+  abbrev pub NoBetter : LentStore → LentStore → Type 0
+  NoBetter store store′ =
+      (r r′ : Sheet) (file marks file′ marks′ : List ℕ) → SheetFrom store r file marks → SheetFrom store′ r′ file′ marks′
       → (i : ℕ) → i < segmentCount c → marked marks i ≡ true → marked marks′ i ≡ true
 
-  -- restores of two shelves leave the same marks
-  abbrev pub SameMarks : LentShelf → LentShelf → Type 0
-  SameMarks shelf shelf′ =
-      (r r′ : Sheet) (file marks file′ marks′ : List ℕ) → Restores shelf r file marks → Restores shelf′ r′ file′ marks′
+  -- restores of two stores leave the same marks
+  abbrev pub SameMarks : LentStore → LentStore → Type 0
+  SameMarks store store′ =
+      (r r′ : Sheet) (file marks file′ marks′ : List ℕ) → SheetFrom store r file marks → SheetFrom store′ r′ file′ marks′
       → take (segmentCount c) marks ≡ take (segmentCount c) marks′
 
   pub record Vault : Type 0 where
@@ -128,28 +128,28 @@ module _ (c : Card) (weights : List ℕ) where
     -- every strand that the writer prints is a legal read: its seed, and the file's payload for it
     pub legal : (file read : List ℕ) → AllBytes file → PrintedStrand file read
         → (s : ℕ) × (readCheck c weights read ≡ droplet s (payloadFor file s))
-    -- every record on the shelf is a droplet of the file
-    pub shelf : (file lent : List ℕ) (calls : List Call) → Job file lent calls → GivesAll (c .l) file (dropletsOn (shelfAfter lent calls))
-    -- no read is refused for a payload that differs from the shelf's
-    pub never-15 : (file lent : List ℕ) (calls : List Call) → Job file lent calls → All (λ k. k .answer ≡ store.Refused 15 → ⊥) calls
-    -- every sheet that is restored from the shelf is right
+    -- every record in the store is a droplet of the file
+    pub store : (file lent : List ℕ) (calls : List Call) → Job file lent calls → GivesAll (c .l) file (dropletsOn (storeAfter lent calls))
+    -- no read is refused for a payload that differs from the store's
+    pub never-15 : (file lent : List ℕ) (calls : List Call) → Job file lent calls → All (λ k. k .answer ≡ reply.Refused 15 → ⊥) calls
+    -- every sheet that is restored from the store is right
     pub back : (file lent : List ℕ) (calls : List Call) → Job file lent calls
-        → (r : Sheet) (file′ marks′ : List ℕ) → Restores (shelfAfter lent calls) r file′ marks′ → RightSheet file r file′ marks′
+        → (r : Sheet) (file′ marks′ : List ℕ) → SheetFrom (storeAfter lent calls) r file′ marks′ → RightSheet file r file′ marks′
     -- more reads never hurt, where there is room for them
     pub more-reads : (file lent lent′ : List ℕ) (calls calls′ : List Call) → Job file lent calls → Job file lent′ calls′
-        → RoomForAll lent′ calls′ → AllAmong (legalOf calls) (legalOf calls′) → NoBetter (shelfAfter lent calls) (shelfAfter lent′ calls′)
+        → RoomForAll lent′ calls′ → AllAmong (legalOf calls) (legalOf calls′) → NoBetter (storeAfter lent calls) (storeAfter lent′ calls′)
     -- reads offered after others are more reads
     pub further-reads : (calls calls′ : List Call) (more : List (List ℕ)) → readsOf calls′ ≡ readsOf calls ++ more
         → AllAmong (legalOf calls) (legalOf calls′)
     -- the order of the reads and their repeats never matter, where there is room
     pub any-order : (file lent lent′ : List ℕ) (calls calls′ : List Call) → Job file lent calls → Job file lent′ calls′
         → RoomForAll lent calls → RoomForAll lent′ calls′ → AllAmong (legalOf calls) (legalOf calls′) → AllAmong (legalOf calls′) (legalOf calls)
-        → SameMarks (shelfAfter lent calls) (shelfAfter lent′ calls′)
-    -- over any two shelves: more droplets never hurt
-    pub more-droplets : (shelf shelf′ : LentShelf) → AllAmong (dropletsOn shelf) (dropletsOn shelf′) → NoBetter shelf shelf′
-    -- over any two shelves: the order of the droplets and their repeats never matter
-    pub same-droplets : (shelf shelf′ : LentShelf) → AllAmong (dropletsOn shelf) (dropletsOn shelf′)
-        → AllAmong (dropletsOn shelf′) (dropletsOn shelf) → SameMarks shelf shelf′
+        → SameMarks (storeAfter lent calls) (storeAfter lent′ calls′)
+    -- over any two stores: more droplets never hurt
+    pub more-droplets : (store store′ : LentStore) → AllAmong (dropletsOn store) (dropletsOn store′) → NoBetter store store′
+    -- over any two stores: the order of the droplets and their repeats never matter
+    pub same-droplets : (store store′ : LentStore) → AllAmong (dropletsOn store) (dropletsOn store′)
+        → AllAmong (dropletsOn store′) (dropletsOn store) → SameMarks store store′
 
 -- "under one accepted card"
 abbrev pub FromFileToVault : Type 0

@@ -1,3 +1,3 @@
 // The fourth layer: the store of records (document 01's shelf) and the peeling decoder (its restorer).
 pub mod restorer;
-pub mod shelf;
+pub mod store;

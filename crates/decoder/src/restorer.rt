@@ -1,22 +1,21 @@
 ghost use mathlib.Core.Path.{_≡_};
 ghost use mathlib.Core.List.{[]};
-ghost use Prim.Native.Nat.{suc, _+_, _-_, _*_, _%_, _≤_, _<_};
+ghost use Prim.Native.Nat.{suc, _+_, _-_, _*_, _≤_, _<_};
 ghost use lib.ListN.{length, take, drop, replicate};
 ghost use Rattle.field.specs.Bytes.{fromBigEndian, xorLists, padded};
-ghost use Rattle.field.specs.Generator.{numberDrawn};
 ghost use Rattle.droplet.specs.PoolCard.{weightCount};
-ghost use Rattle.droplet.specs.Droplet.{joining, pickFrom, payload};
+ghost use Rattle.droplet.specs.Droplet.{pickFrom, payload};
 ghost use Rattle.droplet.specs.Loops.{Drawable, Marked};
-ghost use Rattle.decoder.specs.Shelf.{recordFrom, records};
-ghost use Rattle.decoder.specs.Restorer.{recovered, filled, step, pass, present, peel, restoration, contradicts, contradictions, hasSeed, RestorePromise};
-ghost use Rattle.decoder.specs.Loops.{recordAt, dropletOf, dropletsOf, lookedAt, AllBelow, Looked, Seen, Room, Filled, Ended, Recovered, laterRefusal};
-use crate::shelf::starts_with;
+ghost use Rattle.decoder.specs.Store.{recordFrom, records};
+ghost use Rattle.decoder.specs.Restorer.{known, filled, step, pass, present, peel, peelAll, contradicts, contradictions, hasSeed, RestorePromise};
+ghost use Rattle.decoder.specs.Loops.{recordAt, dropletOf, dropletsOf, lookedAt, AllBelow, Looked, Seen, Room, Filled, Ended, MadeSheet, laterRefusal};
+use crate::store::starts_with;
 use droplet::card::Card;
 use droplet::card::Plan;
 use droplet::card::PlanAnswer;
 use droplet::card::check_plan;
 use droplet::droplet::degree_for;
-use droplet::droplet::has_joined;
+use droplet::droplet::joining_segment;
 use droplet::droplet::mark;
 use droplet::droplet::payload_of;
 use droplet::droplet::xor_into;
@@ -56,25 +55,25 @@ pub struct Peeling {
     pub passes: u32,
 }
 
-// Record `i` of the shelf: seed and payload.
-fn record_at(shelf: &[u8], l: usize, i: usize) -> &[u8]
-    requires { ⌜ (l ≤ 64) × (i * (4 + l) + (4 + l) ≤ length (now shelf)) ⌝ }
-    ensures { λ r. ⌜ now r ≡ recordAt l (now (shelf .entry)) i ⌝ }
+// Record `i` of the store: seed and payload.
+fn record_at(store: &[u8], l: usize, i: usize) -> &[u8]
+    requires { ⌜ (l ≤ 64) × (i * (4 + l) + (4 + l) ≤ length (now store)) ⌝ }
+    ensures { λ r. ⌜ now r ≡ recordAt l (now (store .entry)) i ⌝ }
 {
     let width = 4 + l;
     let a = i * width;
     let e = a + width;
-    &shelf[a..e]
+    &store[a..e]
 }
 
 // Question 17: whether one of the first `count` records has seed 0.
-fn has_seed_zero(shelf: &[u8], l: usize, count: usize) -> bool
-    requires { ⌜ (l ≤ 64) × (count * (4 + l) ≤ length (now shelf)) ⌝ }
-    ensures { λ r. ⌜ r ≡ hasSeed 0 (records l count (now (shelf .entry))) ⌝ }
+fn has_seed_zero(store: &[u8], l: usize, count: usize) -> bool
+    requires { ⌜ (l ≤ 64) × (count * (4 + l) ≤ length (now store)) ⌝ }
+    ensures { λ r. ⌜ r ≡ hasSeed 0 (records l count (now (store .entry))) ⌝ }
 {
     let mut i = 0;
     while i < count {
-        if seed_of(record_at(shelf, l, i)) == 0 {
+        if seed_of(record_at(store, l, i)) == 0 {
             return true;
         }
         i += 1;
@@ -104,15 +103,6 @@ fn look_at(found: Unmarked, s: u32, mark: u8) -> Unmarked
         Unmarked::One(_) => Unmarked::Several,
         Unmarked::Several => Unmarked::Several,
     }
-}
-
-// The segment that joins those of `list` by the draw that ended in `state`. `words` is a bitmap of the list, of any length.
-fn joining_segment(state: Draw, j: u32, list: &[u32], words: &[u64]) -> u32
-    requires { ⌜ (j < 131072) × Marked (now words) (now list) ⌝ }
-    ensures { λ r. ⌜ r ≡ joining (now (list .entry)) j (numberDrawn state % (j + 1)) ⌝ }
-{
-    let t = state.number() % (j + 1);
-    if has_joined(words, list, t) { j } else { t }
 }
 
 // Draws the first `n` of the `d` segments of a set, and looks at the mark of each as it joins. At the second unmarked one it
@@ -180,7 +170,7 @@ fn draw_record(bytes: &[u8], plan: Plan, weights: &[u8], marks: &[u8], list: &mu
 // The stored payload XOR the marked segments of `list`, as 64 bytes, those past `l` being 0.
 fn xor_marked(stored: &[u8], l: usize, list: &[u32], file: &[u8], marks: &[u8]) -> [u8; 64]
     requires { ⌜ (l ≤ 64) × (length (now stored) ≡ l) × AllBelow (length (now marks)) (now list) ⌝ }
-    ensures { λ p. ⌜ p ≡ padded 64 (xorLists (now (stored .entry)) (payload l (now (file .entry)) (recovered (now (marks .entry)) (now (list .entry))))) ⌝ }
+    ensures { λ p. ⌜ p ≡ padded 64 (xorLists (now (stored .entry)) (payload l (now (file .entry)) (known (now (marks .entry)) (now (list .entry))))) ⌝ }
 {
     let mut p = [0u8; 64];
     xor_into(&mut p, stored);
@@ -234,26 +224,26 @@ fn step_record(
     1
 }
 
-// One pass over the records, in shelf order. How many segments it fills.
+// One pass over the records, in store order. How many segments it fills.
 fn pass(
     plan: Plan,
     l: usize,
     weights: &[u8],
-    shelf: &[u8],
+    store: &[u8],
     count: usize,
     file: &mut [u8],
     marks: &mut [u8],
     list: &mut [u32],
 ) -> u32
-    requires { ⌜ (count * (4 + l) ≤ length (now shelf)) × Room plan l (now weights) (now file) (now marks) (now list) ⌝ }
+    requires { ⌜ (count * (4 + l) ≤ length (now store)) × Room plan l (now weights) (now file) (now marks) (now list) ⌝ }
     ensures { λ r. ⌜ Filled (plan .segments) (now (weights .entry))
-        (pass l (dropletsOf (now (weights .entry)) (plan .segments) l count (now (shelf .entry))) (record { file = now (file .entry); marks = now (marks .entry) }))
+        (pass l (dropletsOf (now (weights .entry)) (plan .segments) l count (now (store .entry))) (record { file = now (file .entry); marks = now (marks .entry) }))
         (now (marks .entry)) (now (list .entry)) (now (file .exit)) (now (marks .exit)) (now (list .exit)) r ⌝ }
 {
     let mut filled = 0;
     let mut i = 0;
     while i < count {
-        filled += step_record(record_at(shelf, l, i), plan, l, weights, file, marks, list);
+        filled += step_record(record_at(store, l, i), plan, l, weights, file, marks, list);
         i += 1;
     }
     filled
@@ -264,21 +254,21 @@ fn peel(
     plan: Plan,
     l: usize,
     weights: &[u8],
-    shelf: &[u8],
+    store: &[u8],
     count: usize,
     file: &mut [u8],
     marks: &mut [u8],
     list: &mut [u32],
 ) -> Peeling
-    requires { ⌜ (count * (4 + l) ≤ length (now shelf)) × Room plan l (now weights) (now file) (now marks) (now list) × (present (plan .segments) (now marks) ≡ 0) ⌝ }
+    requires { ⌜ (count * (4 + l) ≤ length (now store)) × Room plan l (now weights) (now file) (now marks) (now list) × (present (plan .segments) (now marks) ≡ 0) ⌝ }
     ensures { λ r. ⌜ Ended (plan .segments) (now (weights .entry))
-        (peel (suc (plan .segments)) (plan .segments) l (dropletsOf (now (weights .entry)) (plan .segments) l count (now (shelf .entry))) 0 (record { file = now (file .entry); marks = now (marks .entry) }))
+        (peel (suc (plan .segments)) (plan .segments) l (dropletsOf (now (weights .entry)) (plan .segments) l count (now (store .entry))) 0 (record { file = now (file .entry); marks = now (marks .entry) }))
         (now (list .entry)) (now (file .exit)) (now (marks .exit)) (now (list .exit)) r ⌝ }
 {
     let mut present = 0;
     let mut passes = 0;
     loop {
-        let filled = pass(plan, l, weights, shelf, count, file, marks, list);
+        let filled = pass(plan, l, weights, store, count, file, marks, list);
         passes += 1;
         if filled == 0 {
             return Peeling { present, passes };
@@ -318,20 +308,20 @@ fn count_contradictions(
     plan: Plan,
     l: usize,
     weights: &[u8],
-    shelf: &[u8],
+    store: &[u8],
     count: usize,
     file: &[u8],
     marks: &[u8],
     list: &mut [u32],
 ) -> usize
-    requires { ⌜ (count * (4 + l) ≤ length (now shelf)) × Room plan l (now weights) (now file) (now marks) (now list) ⌝ }
-    ensures { λ r. ⌜ (r ≡ contradictions l (dropletsOf (now (weights .entry)) (plan .segments) l count (now (shelf .entry))) (record { file = now (file .entry); marks = now (marks .entry) }))
+    requires { ⌜ (count * (4 + l) ≤ length (now store)) × Room plan l (now weights) (now file) (now marks) (now list) ⌝ }
+    ensures { λ r. ⌜ (r ≡ contradictions l (dropletsOf (now (weights .entry)) (plan .segments) l count (now (store .entry))) (record { file = now (file .entry); marks = now (marks .entry) }))
         × (drop (weightCount (now (weights .entry))) (now (list .exit)) ≡ drop (weightCount (now (weights .entry))) (now (list .entry))) ⌝ }
 {
     let mut n = 0;
     let mut i = 0;
     while i < count {
-        if contradicts(record_at(shelf, l, i), plan, l, weights, file, marks, list) {
+        if contradicts(record_at(store, l, i), plan, l, weights, file, marks, list) {
             n += 1;
         }
         i += 1;
@@ -340,27 +330,27 @@ fn count_contradictions(
 }
 
 // A restore that no question refuses.
-fn recover(
+fn make_sheet(
     plan: Plan,
     l: usize,
     weights: &[u8],
-    shelf: &[u8],
+    store: &[u8],
     count: usize,
     file: &mut [u8],
     marks: &mut [u8],
     list: &mut [u32],
 ) -> Sheet
-    requires { ⌜ (count * (4 + l) ≤ length (now shelf)) × Room plan l (now weights) (now file) (now marks) (now list) ⌝ }
-    ensures { λ r. ⌜ Recovered (plan .segments) l (now (weights .entry)) (dropletsOf (now (weights .entry)) (plan .segments) l count (now (shelf .entry)))
-        (restoration (plan .segments) l (dropletsOf (now (weights .entry)) (plan .segments) l count (now (shelf .entry))) (now (file .entry)) (now (marks .entry)))
+    requires { ⌜ (count * (4 + l) ≤ length (now store)) × Room plan l (now weights) (now file) (now marks) (now list) ⌝ }
+    ensures { λ r. ⌜ MadeSheet (plan .segments) l (now (weights .entry)) (dropletsOf (now (weights .entry)) (plan .segments) l count (now (store .entry)))
+        (peelAll (plan .segments) l (dropletsOf (now (weights .entry)) (plan .segments) l count (now (store .entry))) (now (file .entry)) (now (marks .entry)))
         (now (list .entry)) (now (file .exit)) (now (marks .exit)) (now (list .exit)) r ⌝ }
 {
     let k = plan.segments as usize;
     let n = k * l;
     clear(&mut file[..n]);
     clear(&mut marks[..k]);
-    let end = peel(plan, l, weights, shelf, count, file, marks, list);
-    let contradictions = count_contradictions(plan, l, weights, shelf, count, file, marks, list);
+    let end = peel(plan, l, weights, store, count, file, marks, list);
+    let contradictions = count_contradictions(plan, l, weights, store, count, file, marks, list);
     Sheet {
         present: end.present,
         passes: end.passes,
@@ -372,19 +362,19 @@ fn recover(
 fn later_refusal(
     plan: Plan,
     l: usize,
-    shelf: &[u8],
+    store: &[u8],
     count: usize,
     file: usize,
     marks: usize,
     list: usize,
 ) -> u8
     requires { ⌜ (l ≤ 64) × (plan .segments ≤ 131072) ⌝ }
-    ensures { λ r. ⌜ r ≡ laterRefusal (plan .segments) l (plan .degrees) (now (shelf .entry)) count file marks list ⌝ }
+    ensures { λ r. ⌜ r ≡ laterRefusal (plan .segments) l (plan .degrees) (now (store .entry)) count file marks list ⌝ }
 {
-    if shelf.len() / (4 + l) < count {
+    if store.len() / (4 + l) < count {
         return 14;
     }
-    if has_seed_zero(shelf, l, count) {
+    if has_seed_zero(store, l, count) {
         return 17;
     }
     let k = plan.segments as usize;
@@ -400,27 +390,27 @@ fn later_refusal(
     0
 }
 
-// Fills what the records of a shelf give of a file. The number list is scratch memory.
+// Fills what the records of a store give of a file. The number list is scratch memory.
 pub fn restore(
     card: Card,
     weights: &[u8],
-    shelf: &[u8],
+    store: &[u8],
     count: usize,
     file: &mut [u8],
     marks: &mut [u8],
     list: &mut [u32],
 ) -> RestoreAnswer
-    ensures { λ r. ⌜ RestorePromise card (now (weights .entry)) (now (shelf .entry)) count (now (file .entry)) (now (marks .entry)) (now (list .entry)) r (now (file .exit)) (now (marks .exit)) (now (list .exit)) ⌝ }
+    ensures { λ r. ⌜ RestorePromise card (now (weights .entry)) (now (store .entry)) count (now (file .entry)) (now (marks .entry)) (now (list .entry)) r (now (file .exit)) (now (marks .exit)) (now (list .exit)) ⌝ }
 {
     match check_plan(card, weights) {
         PlanAnswer::Refused(n) => RestoreAnswer::Refused(n),
         PlanAnswer::Ready(plan) => {
             let l = card.l as usize;
-            let n = later_refusal(plan, l, shelf, count, file.len(), marks.len(), list.len());
+            let n = later_refusal(plan, l, store, count, file.len(), marks.len(), list.len());
             if n != 0 {
                 return RestoreAnswer::Refused(n);
             }
-            RestoreAnswer::Restored(recover(plan, l, weights, shelf, count, file, marks, list))
+            RestoreAnswer::Restored(make_sheet(plan, l, weights, store, count, file, marks, list))
         }
     }
 }

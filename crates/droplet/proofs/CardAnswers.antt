@@ -16,7 +16,7 @@ use Rattle.droplet.specs.declared.card.PlanAnswer.the-variants as planni
 use Rattle.droplet.specs.declared.card.CardAnswer.{CardAnswer}
 use Rattle.droplet.specs.declared.card.CardAnswer.the-variants as reading
 use Rattle.droplet.specs.PoolCard.{weightsStart, wellFormed, cardNumbers, cardWeights, weightCount, weightSum, segmentCount}
-use Rattle.droplet.specs.Questions.{CardRead, cardRefusal, planAnswer, planOf, readRefusal, cardAnswer, cardReading}
+use Rattle.droplet.specs.Questions.{CardRead, cardRefusal, planAnswer, planOf, cardReadingRefusal, cardAnswer, cardReading}
 use Rattle.droplet.specs.Questions.Planned.{planned, refused}
 use Rattle.droplet.specs.Questions.CardRead.{accepted}
 use Rattle.droplet.proofs.Conjunctions.{said-yes}
@@ -86,7 +86,7 @@ module _ (card : Card) (ws : List ℕ) where
 -- the card reader accepts these bytes, with the card's numbers and D
 pub record Accepted (bytes : List ℕ) (card : Card) (d : ℕ) : Type 0 where
   pub long : weightsStart ≤ length bytes
-  pub reader-unrefused : readRefusal bytes ≡ 0
+  pub reader-unrefused : cardReadingRefusal bytes ≡ 0
   pub unrefused : cardRefusal card (cardWeights bytes) ≡ 0
   pub numbers : card ≡ cardNumbers bytes
   pub degrees : d ≡ weightCount (cardWeights bytes)
@@ -101,9 +101,9 @@ module _ (bytes : List ℕ) where
       ]
 
   pub reading-accepted : (card : Card) (d : ℕ) → cardReading bytes ≡ accepted card d → Accepted bytes card d
-  unfolding cardReading readRefusal
+  unfolding cardReading cardReadingRefusal
   reading-accepted card d e =
-      let told = told-yes (readRefusal bytes) _ CardRead.refused (accepted card d) (λ q. apart (cc)) e in
+      let told = told-yes (cardReadingRefusal bytes) _ CardRead.refused (accepted card d) (λ q. apart (cc)) e in
       let numbers : card ≡ cardNumbers bytes = cc (told .1) in
       let one = said-yes (wellFormed bytes) 0 (cardRefusal (cardNumbers bytes) (cardWeights bytes)) (told .0) in
       record {
@@ -114,14 +114,14 @@ module _ (bytes : List ℕ) where
         degrees = cc (told .1);
       }
 
-  pub reading-refused : (n : ℕ) → cardReading bytes ≡ CardRead.refused n → SaysNo (readRefusal bytes) n
+  pub reading-refused : (n : ℕ) → cardReading bytes ≡ CardRead.refused n → SaysNo (cardReadingRefusal bytes) n
   unfolding cardReading
-  reading-refused n e = told-no (readRefusal bytes) _ CardRead.refused n (λ q. apart (cc)) (λ q. cc) e
+  reading-refused n e = told-no (cardReadingRefusal bytes) _ CardRead.refused n (λ q. apart (cc)) (λ q. cc) e
 
   -- for a caller of `read_card`
   pub read : {r : CardAnswer} {card : Card} {d : ℕ} → cardAnswer r ≡ cardReading bytes → r ≡ reading.Accepted card d
       → Accepted bytes card d
   read {card = card} {d = d} e q = reading-accepted card d (sym e ∙ ap cardAnswer q)
 
-  pub unread : {r : CardAnswer} {n : ℕ} → cardAnswer r ≡ cardReading bytes → r ≡ reading.Refused n → SaysNo (readRefusal bytes) n
+  pub unread : {r : CardAnswer} {n : ℕ} → cardAnswer r ≡ cardReading bytes → r ≡ reading.Refused n → SaysNo (cardReadingRefusal bytes) n
   unread {n = n} e q = reading-refused n (sym e ∙ ap cardAnswer q)

@@ -23,7 +23,7 @@ pub record Drawable (weights : List ℕ) (K sum : ℕ) (list : List ℕ) : Type 
 -- the set of a seed stands in the first places of a list, and the others are as they were; its degree is d
 pub record Picked (weights : List ℕ) (K seed d : ℕ) (before after : List ℕ) : Type 0 where
   pub degree : d ≡ degreeOf weights seed
-  pub set : after ≡ segmentsOf weights K seed ++ drop d before
+  pub placed : after ≡ segmentsOf weights K seed ++ drop d before
 
 -- bit x of a list of words of 64 bits, and the list with that bit set
 unfoldable pub bitAt : List ℕ → ℕ → Bool

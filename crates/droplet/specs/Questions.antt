@@ -49,8 +49,8 @@ planOf c weights =
     (refused (cardRefusal c weights))
 
 -- the questions 1 to 4 of the card reader
-unfoldable pub readRefusal : List ℕ → ℕ
-readRefusal card = cond (wellFormed card) (cardRefusal (cardNumbers card) (cardWeights card)) 1
+unfoldable pub cardReadingRefusal : List ℕ → ℕ
+cardReadingRefusal card = cond (wellFormed card) (cardRefusal (cardNumbers card) (cardWeights card)) 1
 
 -- what the card reader answers: the refusal number, or F, L, R, m, lo, hi and D
 pub data CardRead : Type 0 where
@@ -63,4 +63,4 @@ cardAnswer (reading.Refused n) = CardRead.refused n
 
 unfoldable pub cardReading : List ℕ → CardRead
 cardReading card =
-    cond (eqb (readRefusal card) 0) (accepted (cardNumbers card) (weightCount (cardWeights card))) (CardRead.refused (readRefusal card))
+    cond (eqb (cardReadingRefusal card) 0) (accepted (cardNumbers card) (weightCount (cardWeights card))) (CardRead.refused (cardReadingRefusal card))

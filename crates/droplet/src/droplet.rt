@@ -1,10 +1,11 @@
 ghost use mathlib.Core.Path.{_≡_};
 ghost use mathlib.Core.List.{[], _++_};
-ghost use Prim.Native.Nat.{_-_, _≤_, _<_};
+ghost use Prim.Native.Nat.{_+_, _-_, _%_, _≤_, _<_};
 ghost use lib.ListN.{length, drop};
 ghost use Rattle.field.specs.Bytes.{padded};
+ghost use Rattle.field.specs.Generator.{numberDrawn};
 ghost use Rattle.droplet.specs.PoolCard.{weightSum};
-ghost use Rattle.droplet.specs.Droplet.{degree, member, pickFrom, segment, payload};
+ghost use Rattle.droplet.specs.Droplet.{degree, member, joining, pickFrom, segment, payload};
 ghost use Rattle.droplet.specs.Loops.{Drawable, Picked, Marked, withBit, xorFront};
 use super::weights::weight;
 use field::generator::Draw;
@@ -38,7 +39,7 @@ fn contains(list: &[u32], t: u32) -> bool
 }
 
 // Whether `t` has joined: by its bit where the bitmap has one for it, otherwise by a scan of the list.
-pub fn has_joined(words: &[u64], list: &[u32], t: u32) -> bool
+fn has_joined(words: &[u64], list: &[u32], t: u32) -> bool
     requires { ⌜ Marked (now words) (now list) ⌝ }
     ensures { λ r. ⌜ r ≡ member t (now (list .entry)) ⌝ }
 {
@@ -61,20 +62,25 @@ pub fn mark(words: &mut [u64], s: u32)
     }
 }
 
+// The segment that joins those of `list` by the draw that ended in `state`. `words` is a bitmap of the list, of any length.
+pub fn joining_segment(state: Draw, j: u32, list: &[u32], words: &[u64]) -> u32
+    requires { ⌜ (j < 131072) × Marked (now words) (now list) ⌝ }
+    ensures { λ r. ⌜ r ≡ joining (now (list .entry)) j (numberDrawn state % (j + 1)) ⌝ }
+{
+    let t = state.number() % (j + 1);
+    if has_joined(words, list, t) { j } else { t }
+}
+
 // The set with the help of a bitmap of any length: a number that has no bit there is looked for in the list.
 fn pick_with(mut state: Draw, k: u32, d: usize, list: &mut [u32], words: &mut [u64])
-    requires { ⌜ (d ≤ k) × (d ≤ length (now list)) × Marked (now words) [] ⌝ }
+    requires { ⌜ (k ≤ 131072) × (d ≤ k) × (d ≤ length (now list)) × Marked (now words) [] ⌝ }
     ensures { λ r. ⌜ now (list .exit) ≡ pickFrom d state (k - d) [] ++ drop d (now (list .entry)) ⌝ }
 {
     let mut j = k - (d as u32);
     let mut i = 0;
     while i < d {
         state = state.next();
-        let t = state.number() % (j + 1);
-        let mut s = t;
-        if has_joined(words, &list[..i], t) {
-            s = j;
-        }
+        let s = joining_segment(state, j, &list[..i], words);
         mark(words, s);
         list[i] = s;
         j += 1;

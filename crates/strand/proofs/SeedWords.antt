@@ -26,7 +26,7 @@ word-length c ws file seed = strand-length c seed _ (payload-length (c .l) file 
 module _ (ws : List ℕ) (K seed d : ℕ) (list list′ : List ℕ) (picked : Picked ws K seed d list list′) where
   pub picked-set : take d list′ ≡ segmentsOf ws K seed
   picked-set =
-      ap (take d) (picked .set) ∙ take-at (segmentsOf ws K seed) (drop d list) d (segments-length ws K seed ∙ sym (picked .degree))
+      ap (take d) (picked .placed) ∙ take-at (segmentsOf ws K seed) (drop d list) d (segments-length ws K seed ∙ sym (picked .degree))
 
   module _ (positive : 1 ≤ weightSum ws) where
     pub picked-few : d ≤ weightCount ws
@@ -39,7 +39,7 @@ module _ (ws : List ℕ) (K seed d : ℕ) (list list′ : List ℕ) (picked : Pi
         let D = weightCount ws in
         let e : d + (D - d) ≡ D = omega (arith, picked-few) in
         rw (← e)
-        (ap (drop (d + (D - d))) (picked .set) ∙ rw n at (drop-append-add (segmentsOf ws K seed) (drop d list) (D - d))
+        (ap (drop (d + (D - d))) (picked .placed) ∙ rw n at (drop-append-add (segmentsOf ws K seed) (drop d list) (D - d))
         ∙ drop-drop (D - d) d list)
 
 module _ (c : Card) (ws : List ℕ) (plan : Plan) (list word : List ℕ) (m : Makable c ws plan list word) where

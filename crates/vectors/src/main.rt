@@ -2,8 +2,8 @@
 // must print stands in the file `stdout`; the second implementation prints the same from its own code.
 use decoder::restorer;
 use decoder::restorer::RestoreAnswer;
-use decoder::shelf;
-use decoder::shelf::StoreAnswer;
+use decoder::store;
+use decoder::store::StoreAnswer;
 use droplet::card::Card;
 use field::bytes::join;
 use field::check_bytes;
@@ -71,7 +71,7 @@ fn print_restore(answer: RestoreAnswer) {
 }
 
 // "An empty shelf: present 0, sweeps 1"
-fn empty_shelf(weights: &[u8], buffer: &[u8]) {
+fn empty_store(weights: &[u8], buffer: &[u8]) {
     let mut file = [255u8; 4];
     let mut marks = [255u8; 4];
     let mut list = [0u32; 2];
@@ -109,8 +109,8 @@ fn main() {
     published_words();
     let weights = [0, 0, 0, 1, 0, 0, 0, 1];
     let mut buffer = [255u8; 20];
-    empty_shelf(&weights, &buffer);
+    empty_store(&weights, &buffer);
     // "AAAN is refused with 9"
     io::write_all(1, b"AAAN: ");
-    print_store(shelf::store_read(bench_card(), &weights, &mut buffer, 0, b"AAAN"));
+    print_store(store::store_read(bench_card(), &weights, &mut buffer, 0, b"AAAN"));
 }

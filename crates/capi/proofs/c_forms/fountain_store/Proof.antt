@@ -1,16 +1,16 @@
--- `fountain_store` meets its contract: the numbers of each of the shelving call's answers. Assumes nothing.
+-- `fountain_store` meets its contract: the numbers of each of the store call's answers. Assumes nothing.
 use mathlib.Core.Path.{_≡_, ap, _∙_}
 use mathlib.Core.List.{List}
 use Prim.Native.Nat.{ℕ}
 use Rattle.droplet.specs.declared.card.Card.{Card}
-use Rattle.decoder.specs.declared.shelf.StoreAnswer.{StoreAnswer}
-use Rattle.decoder.specs.Shelf.{storeAnswer, StorePromise}
+use Rattle.decoder.specs.declared.store.StoreAnswer.{StoreAnswer}
+use Rattle.decoder.specs.Store.{storeAnswer, StorePromise}
 use Rattle.capi.specs.CForms.{returned, storeReturned, StoreForm}
 use borrow.Author.Needs.{needs}
 use Rattle.capi.proofs.c_forms.fountain_store.Statement.{statement}
 use Rattle.capi.proofs.c_forms.fountain_store.Tie as tie
 
--- the answer's numbers, with the shelving call's own promise
+-- the answer's numbers, with the store call's own promise
 formed : {c : Card} {weights buffer : List ℕ} {count : ℕ} {read : List ℕ} {r : StoreAnswer} {buffer′ : List ℕ}
     → StorePromise c weights buffer count read r buffer′
     → (answer : List ℕ) (n : ℕ) (answer′ : List ℕ) → returned n answer′ ≡ storeReturned answer (storeAnswer r)

@@ -7,7 +7,7 @@ use native.Mathlib.Omega.{arith}
 use lib.Seq.{length-take-le}
 use lib.ListN.{drop}
 use Rattle.droplet.specs.PoolCard.{weightCount}
-use Rattle.decoder.specs.Shelf.{recordFrom}
+use Rattle.decoder.specs.Store.{recordFrom}
 use Rattle.decoder.specs.Restorer.{contradicts}
 use Rattle.decoder.specs.Loops.{dropletOf}
 use Rattle.decoder.proofs.RecordTurns.{degree-places, list-kept, agrees-unless, xor-long, contradicts-by}

@@ -12,11 +12,11 @@ use Rattle.decoder.proofs.restorer.count_contradictions.Statement.{stat
 use Rattle.decoder.proofs.restorer.count_contradictions.Tie as tie
 
 abbrev Inv-loop : tie.InvT-loop
-Inv-loop plan l weights shelf count file marks list₀ n₀ i₀ list n i =
-    Counting weights (plan .segments) l count shelf (record { file = file; marks = marks }) list₀ list n i
+Inv-loop plan l weights store count file marks list₀ n₀ i₀ list n i =
+    Counting weights (plan .segments) l count store (record { file = file; marks = marks }) list₀ list n i
 
 abbrev μ-loop : tie.MeasureT-loop
-μ-loop plan l weights shelf count file marks list₀ n₀ i₀ list n i = count - i
+μ-loop plan l weights store count file marks list₀ n₀ i₀ list n i = count - i
 
 loop-holds : tie.Need-loop-holds Inv-loop μ-loop
 loop-holds c = counting-begins _ _ _ _ _ _ _
@@ -25,7 +25,7 @@ record-at-requires : tie.Need-record-at-requires Inv-loop μ-loop
 record-at-requires c κs =
     let l = c .before in
     let s = l .before .before .before .before .before .before in
-    (s .pre .1 .narrow, record-fits (s .args .l) (s .args .count) (s .args .shelf .now) _ (c .loop-test .taken) (s .pre .0))
+    (s .pre .1 .narrow, record-fits (s .args .l) (s .args .count) (s .args .store .now) _ (c .loop-test .taken) (s .pre .0))
 
 contradicts-requires : tie.Need-contradicts-requires Inv-loop μ-loop
 contradicts-requires c κs =

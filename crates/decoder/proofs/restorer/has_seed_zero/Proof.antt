@@ -5,7 +5,7 @@ use Prim.Native.Nat.{ℕ, _-_, _≤_}
 use native.Mathlib.Omega.{arith}
 use lib.ListN.{length, take}
 use Rattle.field.specs.Bytes.{fromBigEndian}
-use Rattle.decoder.specs.Shelf.{records}
+use Rattle.decoder.specs.Store.{records}
 use Rattle.decoder.specs.Restorer.{hasSeed}
 use Rattle.decoder.specs.Loops.{recordAt}
 use Rattle.decoder.proofs.RecordsAt.{recordsFrom, records-all, record-fits, record-length}
@@ -15,15 +15,15 @@ use Rattle.decoder.proofs.restorer.has_seed_zero.Statement.{statement}
 use Rattle.decoder.proofs.restorer.has_seed_zero.Tie as tie
 
 abbrev Inv-loop : tie.InvT-loop
-Inv-loop shelf l count i₀ i = (i ≤ count) × (hasSeed 0 (recordsFrom l count shelf i) ≡ hasSeed 0 (records l count shelf))
+Inv-loop store l count i₀ i = (i ≤ count) × (hasSeed 0 (recordsFrom l count store i) ≡ hasSeed 0 (records l count store))
 
 abbrev μ-loop : tie.MeasureT-loop
-μ-loop shelf l count i₀ i = count - i
+μ-loop store l count i₀ i = count - i
 
 -- the seed that is read is the record's
 seed : (c : tie.After-seed-of Inv-loop μ-loop)
     → (let x = c .before .before .before .before .before .args in
-    c .seed-of .result ≡ fromBigEndian (take 4 (recordAt (x .l) (x .shelf .now) (c .before .before .before .loop .i))))
+    c .seed-of .result ≡ fromBigEndian (take 4 (recordAt (x .l) (x .store .now) (c .before .before .before .loop .i))))
 seed c = c .seed-of .ensures ∙ ap (λ (r : List ℕ). fromBigEndian (take 4 r)) (c .before .record-at .ensures)
 
 loop-holds : tie.Need-loop-holds Inv-loop μ-loop
@@ -32,21 +32,21 @@ loop-holds c = (search needs, ap (hasSeed 0) (records-all _ _ _))
 record-at-requires : tie.Need-record-at-requires Inv-loop μ-loop
 record-at-requires c κs =
     let x = c .before .before .before in
-    (x .pre .0, record-fits (x .args .l) (x .args .count) (x .args .shelf .now) _ (c .loop-test .taken) (x .pre .1))
+    (x .pre .0, record-fits (x .args .l) (x .args .count) (x .args .store .now) _ (c .loop-test .taken) (x .pre .1))
 
 seed-of-requires : tie.Need-seed-of-requires Inv-loop μ-loop
 seed-of-requires c κs =
     let l = c .before in
     let x = l .before .before .before in
     let own = ap length (c .record-at .ensures)
-    ∙ record-length (x .args .l) (x .args .count) (x .args .shelf .now) (l .before .loop .i) (l .loop-test .taken) (x .pre .1) in
+    ∙ record-length (x .args .l) (x .args .count) (x .args .store .now) (l .before .loop .i) (l .loop-test .taken) (x .pre .1) in
     omega arith
 
 returns : tie.Need-returns Inv-loop μ-loop
 returns c =
     let l = c .before .before .before in
     let x = l .before .before .before in
-    sym (seed-here (x .args .l) (x .args .count) (x .args .shelf .now) 0 _ (l .loop-test .taken) (x .pre .1) (sym (seed (c .before)) ∙ c .if1 .taken))
+    sym (seed-here (x .args .l) (x .args .count) (x .args .store .now) 0 _ (l .loop-test .taken) (x .pre .1) (sym (seed (c .before)) ∙ c .if1 .taken))
     ∙ l .before .loop .inv .1
 
 loop-again : tie.Need-loop-again Inv-loop μ-loop
@@ -54,14 +54,14 @@ loop-again c =
     let l = c .before .before .before in
     let x = l .before .before .before in (
       search needs,
-      sym (seed-past (x .args .l) (x .args .count) (x .args .shelf .now) 0 _ (l .loop-test .taken) (x .pre .1) (λ e. c .if1 .left (seed (c .before) ∙ e)))
+      sym (seed-past (x .args .l) (x .args .count) (x .args .store .now) 0 _ (l .loop-test .taken) (x .pre .1) (λ e. c .if1 .left (seed (c .before) ∙ e)))
           ∙ l .before .loop .inv .1,
     )
 
 returns-2 : tie.Need-returns-2 Inv-loop μ-loop
 returns-2 c =
     let x = c .before .before .before .args in
-    sym (seed-end (x .l) (x .count) (x .shelf .now) 0 _ (c .loop-test .left)) ∙ c .before .loop .inv .1
+    sym (seed-end (x .l) (x .count) (x .store .now) 0 _ (c .loop-test .left)) ∙ c .before .loop .inv .1
 
 pub has-seed-zero-spec : {M : Type 1} → statement M
 has-seed-zero-spec =

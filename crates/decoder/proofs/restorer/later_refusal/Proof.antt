@@ -7,30 +7,30 @@ use native.Mathlib.Nat.{le-div-iff-mul-le, div-lt-iff-lt-mul, mul-le-mul-left}
 use native.Mathlib.Omega.{arith}
 use borrow.Author.Tests.{le-leb, lt-leb}
 use lib.ListN.{length}
-use Rattle.decoder.specs.Shelf.{records}
+use Rattle.decoder.specs.Store.{records}
 use Rattle.decoder.specs.Restorer.{hasSeed}
 use Rattle.decoder.specs.Loops.{laterRefusal}
 use borrow.Author.Needs.{needs}
 use Rattle.decoder.proofs.restorer.later_refusal.Statement.{statement}
 use Rattle.decoder.proofs.restorer.later_refusal.Tie as tie
 
-module _ (K L D : ℕ) (shelf : List ℕ) (count file marks list : ℕ) where
+module _ (K L D : ℕ) (store : List ℕ) (count file marks list : ℕ) where
   abbrev answer : ℕ
-  answer = laterRefusal K L D shelf count file marks list
+  answer = laterRefusal K L D store count file marks list
 
-  answer-14 : length shelf / (4 + L) < count → 14 ≡ answer
+  answer-14 : length store / (4 + L) < count → 14 ≡ answer
   unfolding laterRefusal
-  answer-14 h = rw (lt-leb _ _ (div-lt-iff-lt-mul {k = 4 + L} {x = length shelf} {y = count} (omega arith) .0 h))
+  answer-14 h = rw (lt-leb _ _ (div-lt-iff-lt-mul {k = 4 + L} {x = length store} {y = count} (omega arith) .0 h))
 
-  module _ (h : count ≤ length shelf / (4 + L)) where
-    fits : count * (4 + L) ≤ length shelf
-    fits = le-div-iff-mul-le {k = 4 + L} {x = count} {y = length shelf} (omega arith) .0 h
+  module _ (h : count ≤ length store / (4 + L)) where
+    fits : count * (4 + L) ≤ length store
+    fits = le-div-iff-mul-le {k = 4 + L} {x = count} {y = length store} (omega arith) .0 h
 
-    answer-17 : hasSeed 0 (records L count shelf) ≡ true → 17 ≡ answer
+    answer-17 : hasSeed 0 (records L count store) ≡ true → 17 ≡ answer
     unfolding laterRefusal
     answer-17 zero = rw (le-leb _ _ fits, zero)
 
-    module _ (none : hasSeed 0 (records L count shelf) ≡ false) where
+    module _ (none : hasSeed 0 (records L count store) ≡ false) where
       answer-18-file : file < K * L → 18 ≡ answer
       unfolding laterRefusal
       answer-18-file short = rw (le-leb _ _ fits, none, lt-leb _ _ short)
@@ -55,7 +55,7 @@ returns c = answer-14 _ _ _ _ _ _ _ _ (c .if1 .taken)
 has-seed-zero-requires : tie.Need-has-seed-zero-requires
 has-seed-zero-requires c κs =
     let x = c .before .before in
-    (x .pre .0, fits 0 (x .args .l) 0 (x .args .shelf .now) (x .args .count) 0 0 0 (c .if1 .left))
+    (x .pre .0, fits 0 (x .args .l) 0 (x .args .store .now) (x .args .count) 0 0 0 (c .if1 .left))
 
 returns-2 : tie.Need-returns-2
 returns-2 c =

@@ -10,11 +10,11 @@ use Rattle.decoder.proofs.restorer.pass.Statement.{statement}
 use Rattle.decoder.proofs.restorer.pass.Tie as tie
 
 abbrev Inv-loop : tie.InvT-loop
-Inv-loop plan l weights shelf count file₀ marks₀ list₀ filled₀ i₀ file marks list filled i =
-    Passing weights (plan .segments) l count shelf file₀ marks₀ list₀ file marks list filled i
+Inv-loop plan l weights store count file₀ marks₀ list₀ filled₀ i₀ file marks list filled i =
+    Passing weights (plan .segments) l count store file₀ marks₀ list₀ file marks list filled i
 
 abbrev μ-loop : tie.MeasureT-loop
-μ-loop plan l weights shelf count file₀ marks₀ list₀ filled₀ i₀ file marks list filled i = count - i
+μ-loop plan l weights store count file₀ marks₀ list₀ filled₀ i₀ file marks list filled i = count - i
 
 loop-holds : tie.Need-loop-holds Inv-loop μ-loop
 loop-holds c = passing-begins _ _ _ _ _ _ _ _ _ refl
@@ -23,7 +23,7 @@ record-at-requires : tie.Need-record-at-requires Inv-loop μ-loop
 record-at-requires c κs =
     let l = c .before in
     let s = l .before .before .before .before .before .before in
-    (s .pre .1 .narrow, record-fits (s .args .l) (s .args .count) (s .args .shelf .now) _ (c .loop-test .taken) (s .pre .0))
+    (s .pre .1 .narrow, record-fits (s .args .l) (s .args .count) (s .args .store .now) _ (c .loop-test .taken) (s .pre .0))
 
 step-record-requires : tie.Need-step-record-requires Inv-loop μ-loop
 step-record-requires c κs =

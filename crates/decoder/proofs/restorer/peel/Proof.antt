@@ -9,11 +9,11 @@ use Rattle.decoder.proofs.restorer.peel.Statement.{statement}
 use Rattle.decoder.proofs.restorer.peel.Tie as tie
 
 abbrev Inv-loop : tie.InvT-loop
-Inv-loop plan l weights shelf count file₀ marks₀ list₀ present₀ passes₀ file marks list present passes =
-    PeelingOn weights (plan .segments) l (dropletsOf weights (plan .segments) l count shelf) file₀ marks₀ list₀ file marks list present passes
+Inv-loop plan l weights store count file₀ marks₀ list₀ present₀ passes₀ file marks list present passes =
+    PeelingOn weights (plan .segments) l (dropletsOf weights (plan .segments) l count store) file₀ marks₀ list₀ file marks list present passes
 
 abbrev μ-loop : tie.MeasureT-loop
-μ-loop plan l weights shelf count file₀ marks₀ list₀ present₀ passes₀ file marks list present passes =
+μ-loop plan l weights store count file₀ marks₀ list₀ present₀ passes₀ file marks list present passes =
     plan .segments - present
 
 loop-holds : tie.Need-loop-holds Inv-loop μ-loop

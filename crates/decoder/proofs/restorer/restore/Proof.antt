@@ -24,12 +24,12 @@ returns c =
     let x = c .before .before .before .before .before .before .before .before .before .before .before .before .args in
     later-refused _ _ _ _ (x .file .now) (x .marks .now) (x .list .now) _ (allowed (c .before .before .before .before)) _ (c .before .later-refusal .ensures) (c .if1 .taken)
 
-recover-requires : tie.Need-recover-requires
-recover-requires c κs =
+make-sheet-requires : tie.Need-make-sheet-requires
+make-sheet-requires c κs =
     let x = c .before .before .before .before .before .before .before .before .before .before .before .before .before .before .before .args in
     let p = allowed (c .before .before .before .before .before .before .before) in
     let fine = sym (c .before .before .before .if1 .left) ∙ c .before .before .before .before .later-refusal .ensures in
-    (records-fit _ _ (x .shelf .now) _ (x .file .now) (x .marks .now) (x .list .now) _ p fine, room _ _ (x .shelf .now) _ (x .file .now) (x .marks .now) (x .list .now) _ p fine)
+    (records-fit _ _ (x .store .now) _ (x .file .now) (x .marks .now) (x .list .now) _ p fine, room _ _ (x .store .now) _ (x .file .now) (x .marks .now) (x .list .now) _ p fine)
 
 returns-2 : tie.Need-returns-2
 returns-2 c =
@@ -40,7 +40,7 @@ returns-3 : tie.Need-returns-3
 returns-3 c =
     let x = c .before .before .before .before .before .before .before .before .before .before .before .before .before .before .before .before .before .before .before .before .before .before .args in
     let fine = sym (c .before .before .before .before .before .before .before .before .before .before .if1 .left) ∙ c .before .before .before .before .before .before .before .before .before .before .before .later-refusal .ensures in
-    restored-promise _ _ (x .shelf .now) _ (x .file .now) (x .marks .now) (x .list .now) _ (allowed (c .before .before .before .before .before .before .before .before .before .before .before .before .before .before)) fine _ _ _ _ (c .before .before .before .before .before .before .recover .ensures)
+    restored-promise _ _ (x .store .now) _ (x .file .now) (x .marks .now) (x .list .now) _ (allowed (c .before .before .before .before .before .before .before .before .before .before .before .before .before .before)) fine _ _ _ _ (c .before .before .before .before .before .before .make-sheet .ensures)
 
 pub restore-spec : {M : Type 1} → statement M
 restore-spec =
@@ -52,7 +52,7 @@ restore-spec =
     (λ c. search needs)
     later-refusal-requires
     returns
-    recover-requires
+    make-sheet-requires
     returns-2
     (λ c. search needs)
     (λ c. search needs)

@@ -10,7 +10,7 @@ use lib.Seq.{take-suc, take-all}
 use Rattle.field.specs.Bytes.{xorLists, padded}
 use Rattle.field.proofs.ByteLists.{all-at}
 use Rattle.droplet.specs.Droplet.{payload}
-use Rattle.decoder.specs.Restorer.{recovered}
+use Rattle.decoder.specs.Restorer.{known}
 use Rattle.decoder.specs.Loops.{AllBelow}
 use Rattle.decoder.proofs.MarkedXor.{xor-none, xor-marked, xor-unmarked}
 use borrow.Author.Needs.{needs}
@@ -18,7 +18,7 @@ use Rattle.decoder.proofs.restorer.xor_marked.Statement.{statement}
 use Rattle.decoder.proofs.restorer.xor_marked.Tie as tie
 
 abbrev Inv-loop : tie.InvT-loop
-Inv-loop stored l list file marks p₀ i₀ p i = (i ≤ length list) × (length p ≡ 64) × (p ≡ padded 64 (xorLists stored (payload l file (recovered marks (take i list)))))
+Inv-loop stored l list file marks p₀ i₀ p i = (i ≤ length list) × (length p ≡ 64) × (p ≡ padded 64 (xorLists stored (payload l file (known marks (take i list)))))
 
 abbrev μ-loop : tie.MeasureT-loop
 μ-loop stored l list file marks p₀ i₀ p i = length list - i
@@ -59,7 +59,7 @@ returns : tie.Need-returns Inv-loop μ-loop
 returns c =
     let x = c .before .before .before .before .before .before .before .before .before .args in
     c .before .loop .inv .2
-    ∙ ap (λ (xs : List ℕ). padded 64 (xorLists (x .stored .now) (payload (x .l) (x .file .now) (recovered (x .marks .now) xs)))) (take-all _ (x .list .now) (c .loop-test .left))
+    ∙ ap (λ (xs : List ℕ). padded 64 (xorLists (x .stored .now) (payload (x .l) (x .file .now) (known (x .marks .now) xs)))) (take-all _ (x .list .now) (c .loop-test .left))
 
 pub xor-marked-spec : {M : Type 1} → statement M
 xor-marked-spec =

@@ -10,7 +10,7 @@ use borrow.Author.Needs.{needs}
 use borrow.Author.Tests.{eq-eqb, ne-eqb}
 use Rattle.droplet.specs.declared.card.Card.{Card}
 use Rattle.droplet.specs.PoolCard.{weightsStart, wellFormed, cardNumbers, cardWeights}
-use Rattle.droplet.specs.Questions.{cardRefusal, readRefusal, cardReading}
+use Rattle.droplet.specs.Questions.{cardRefusal, cardReadingRefusal, cardReading}
 use Rattle.droplet.specs.Questions.CardRead.{accepted, refused}
 use Rattle.droplet.proofs.CardAnswers.{SaysNo, Passed, passed, stopped, well-formed-long}
 use Rattle.droplet.proofs.card.read_card.Statement.{statement}
@@ -18,7 +18,7 @@ use Rattle.droplet.proofs.card.read_card.Tie as tie
 
 module _ (bytes : List ℕ) where
   reading-1 : wellFormed bytes ≡ false → refused 1 ≡ cardReading bytes
-  unfolding cardReading readRefusal
+  unfolding cardReading cardReadingRefusal
   reading-1 one = rw one
 
   -- the weights as they are lent to `check_plan`
@@ -29,13 +29,13 @@ module _ (bytes : List ℕ) where
   whole = take-all (length bytes - weightsStart) (drop weightsStart bytes) (simp length-drop (omega arith))
 
   module _ (card : Card) (one : wellFormed bytes ≡ true) (numbers : card ≡ cardNumbers bytes) where
-    refusal : readRefusal bytes ≡ cardRefusal card lent
-    unfolding readRefusal
+    refusal : cardReadingRefusal bytes ≡ cardRefusal card lent
+    unfolding cardReadingRefusal
     refusal = rw (one, numbers, whole)
 
     reading-passed : (k d s : ℕ) → Passed card lent k d s → accepted card d ≡ cardReading bytes
     unfolding cardReading
-    reading-passed k d s p = rw (eq-eqb (readRefusal bytes) 0 (refusal ∙ p .unrefused)) (cc whole)
+    reading-passed k d s p = rw (eq-eqb (cardReadingRefusal bytes) 0 (refusal ∙ p .unrefused)) (cc whole)
 
     reading-stopped : (n : ℕ) → SaysNo (cardRefusal card lent) n → refused n ≡ cardReading bytes
     unfolding cardReading

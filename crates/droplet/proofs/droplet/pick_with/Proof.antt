@@ -1,13 +1,11 @@
 -- `pick_with` meets its contract: the loop is that of `Picking`, and the bitmap is that of what has joined. Assumes nothing.
 use mathlib.Core.Path.{_≡_, refl, sym, ap, _∙_}
-use mathlib.Core.Logic.{⊎-elim}
-use Prim.Native.Nat.{_+_, _-_, _%_}
+use Prim.Native.Nat.{_+_, _-_}
 use native.Mathlib.Omega.{arith}
 use lib.ListN.{length, take}
 use lib.Seq.{length-take-le}
-use Rattle.droplet.specs.Droplet.{joining}
 use Rattle.droplet.specs.Loops.{Marked}
-use Rattle.droplet.proofs.Picking.{Picking, joins-taken, joins-free, picking-begins, picking-turns, picking-ends}
+use Rattle.droplet.proofs.Picking.{Picking, picking-begins, picking-turns, picking-ends}
 use Rattle.droplet.proofs.Bitmap.{marked-more, with-length}
 use borrow.Author.Needs.{needs}
 use Rattle.droplet.proofs.droplet.pick_with.Statement.{statement}
@@ -20,31 +18,22 @@ Inv-loop state₀ k d list₀ words₀ j₀ i₀ state list words j i =
 abbrev μ-loop : tie.MeasureT-loop
 μ-loop state₀ k d list₀ words₀ j₀ i₀ state list words j i = d - i
 
--- what joins is the definition's
-joins : (c : tie.Joined1 Inv-loop μ-loop)
-    → (let n = c .before .before .before .before in
-    let l = n .before .before .before .loop in
-    c .if1 .s ≡ joining (take (l .i) (l .list)) (l .j) (n .number .result % (l .j + 1)))
-joins c =
-    let e = sym (c .before .has-joined .ensures) in
-    ⊎-elim (λ w. w .1 ∙ sym (joins-taken _ _ _ (e ∙ w .0 .taken))) (λ w. w .1 ∙ sym (joins-free _ _ _ (e ∙ w .0 .left))) (c .if1 .came)
-
 loop-holds : tie.Need-loop-holds Inv-loop μ-loop
-loop-holds c = (picking-begins _ _ _ _, c .before .before .pre .2, refl)
+loop-holds c = (picking-begins _ _ _ _, c .before .before .pre .3, refl)
 
-slice-aggregate-has-joined : tie.Need-slice-aggregate-has-joined Inv-loop μ-loop
-slice-aggregate-has-joined c = sym (length-take-le _ _ (omega arith))
+slice-aggregate-joining-segment : tie.Need-slice-aggregate-joining-segment Inv-loop μ-loop
+slice-aggregate-joining-segment c = sym (length-take-le _ _ (omega arith))
 
-has-joined-requires : tie.Need-has-joined-requires Inv-loop μ-loop
-has-joined-requires c κs = c .before .before .before .before .before .loop .inv .1
+joining-segment-requires : tie.Need-joining-segment-requires Inv-loop μ-loop
+joining-segment-requires c κs = (omega arith, c .before .before .before .before .loop .inv .1)
 
 loop-again : tie.Need-loop-again Inv-loop μ-loop
 loop-again c =
     let m = c .before .before in
-    let o = m .before .before in
-    let n = o .before .before .before .before in
-    let l = n .before .before .before .loop in (
-      picking-turns _ _ _ _ _ _ _ _ (l .inv .0) _ _ _ (omega arith) (omega arith) (n .before .next .ensures) (n .number .ensures) (joins o),
+    let s = m .before .before in
+    let n = s .before .before .before in
+    let l = n .before .before .loop in (
+      picking-turns _ _ _ _ _ _ _ _ (l .inv .0) _ _ _ (omega arith) (omega arith) (n .next .ensures) refl (s .joining-segment .ensures),
       marked-more (l .words) _ (l .list) (l .i) _ (m .mark .ensures) (omega arith) (l .inv .1),
       ap length (m .mark .ensures) ∙ with-length _ _ ∙ l .inv .2,
     )
@@ -62,12 +51,9 @@ pick-with-spec =
     (λ c. search needs)
     loop-holds
     (λ c κs. search needs)
-    (λ c κs. search needs)
     (λ c. search needs)
-    (λ c. search needs)
-    (λ c. search needs)
-    slice-aggregate-has-joined
-    has-joined-requires
+    slice-aggregate-joining-segment
+    joining-segment-requires
     (λ c κs. search needs)
     (λ c. search needs)
     (λ c. search needs)

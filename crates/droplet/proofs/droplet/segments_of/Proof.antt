@@ -24,7 +24,7 @@ pick-requires c κs = let m = most (c .before) in (search needs, omega arith, om
 
 returns : tie.Need-returns
 unfolding degreeOf segmentsOf
-returns c = record { degree = cc; set = cc }
+returns c = record { degree = cc; placed = cc }
 
 pub segments-of-spec : {M : Type 1} → statement M
 segments-of-spec =

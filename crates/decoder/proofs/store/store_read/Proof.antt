@@ -8,30 +8,30 @@ use Rattle.droplet.specs.declared.card.Card.{Card}
 use Rattle.droplet.specs.Questions.{cardRefusal}
 use Rattle.droplet.proofs.CardAnswers.{SaysNo, Passed, passed, stopped}
 use Rattle.strand.specs.ReadCheck.{readCheck}
-use Rattle.decoder.specs.declared.shelf.StoreAnswer.{StoreAnswer}
-use Rattle.decoder.specs.declared.shelf.StoreAnswer.the-variants.{Refused}
-use Rattle.decoder.specs.Shelf.{countFits, shelvedReading, shelving, StorePromise}
+use Rattle.decoder.specs.declared.store.StoreAnswer.{StoreAnswer}
+use Rattle.decoder.specs.declared.store.StoreAnswer.the-variants.{Refused}
+use Rattle.decoder.specs.Store.{countFits, storeReading, storeRead, StorePromise}
 use Rattle.decoder.specs.StoreLoops.{Keeps}
 use borrow.Author.Needs.{needs}
-use Rattle.decoder.proofs.shelf.store_read.Statement.{statement}
-use Rattle.decoder.proofs.shelf.store_read.Tie as tie
+use Rattle.decoder.proofs.store.store_read.Statement.{statement}
+use Rattle.decoder.proofs.store.store_read.Tie as tie
 
 module _ (c : Card) (weights buffer : List ℕ) (count : ℕ) (read : List ℕ) where
   illegal : (n : ℕ) → SaysNo (cardRefusal c weights) n → StorePromise c weights buffer count read (Refused n) buffer
-  unfolding shelving
+  unfolding storeRead
   illegal n s =
       let no = ne-eqb n 0 (s .not-zero) in
       record { says = rw (s .number, no); leaves = rw (s .number, no) }
 
   module _ (legal : cardRefusal c weights ≡ 0) where
     overfull : countFits (c .l) buffer count ≡ false → StorePromise c weights buffer count read (Refused 14) buffer
-    unfolding shelving
+    unfolding storeRead
     overfull e = record { says = rw (legal, e); leaves = rw (legal, e) }
 
-    shelved : countFits (c .l) buffer count ≡ true → (r : StoreAnswer) (after : List ℕ)
-        → Keeps (shelvedReading (c .l) buffer count (readCheck c weights read)) r after → StorePromise c weights buffer count read r after
-    unfolding shelving
-    shelved e r after k = record { says = rw (legal, e) (k .says); leaves = rw (legal, e) (k .leaves) }
+    stored : countFits (c .l) buffer count ≡ true → (r : StoreAnswer) (after : List ℕ)
+        → Keeps (storeReading (c .l) buffer count (readCheck c weights read)) r after → StorePromise c weights buffer count read r after
+    unfolding storeRead
+    stored e r after k = record { says = rw (legal, e) (k .says); leaves = rw (legal, e) (k .leaves) }
 
 -- past the questions 2 to 4
 legal : (c : tie.After-enum-told) → (let args = c .before .before .before .before .before .before .args in
@@ -53,7 +53,7 @@ offer-requires c κs =
 returns-2 : tie.Need-returns-2
 returns-2 c =
     let then = c .before .before .before .before in
-    shelved _ _ _ _ _ (legal (then .before .before .before .before) .unrefused) (sym (then .before .count-fits .ensures) ∙ then .if1 .taken) _ _ (c .before .before .offer .ensures)
+    stored _ _ _ _ _ (legal (then .before .before .before .before) .unrefused) (sym (then .before .count-fits .ensures) ∙ then .if1 .taken) _ _ (c .before .before .offer .ensures)
 
 returns-3 : tie.Need-returns-3
 returns-3 c =

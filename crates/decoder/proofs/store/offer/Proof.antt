@@ -1,4 +1,4 @@
--- `offer` meets its contract: the droplet in the read check's answer goes to the shelf, or its refusal is handed on. Assumes nothing.
+-- `offer` meets its contract: the droplet in the read check's answer goes to the store, or its refusal is handed on. Assumes nothing.
 use mathlib.Core.Path.{_≡_, refl, sym, ap, _∙_}
 use mathlib.Core.List.{List}
 use Prim.Native.Nat.{ℕ}
@@ -9,15 +9,15 @@ use Rattle.droplet.proofs.LegalCard.{legal as legal-card}
 use Rattle.strand.specs.ReadCheck.{Reading, refused, readCheck, Answers}
 use Rattle.strand.proofs.ReadingCases.{case-letters}
 use Rattle.strand.proofs.ReadAnswers.{Accepts, accepts, refuses}
-use Rattle.decoder.specs.declared.shelf.StoreAnswer.the-variants.{Refused}
-use Rattle.decoder.specs.Shelf.{shelvedReading}
+use Rattle.decoder.specs.declared.store.StoreAnswer.the-variants.{Refused}
+use Rattle.decoder.specs.Store.{storeReading}
 use Rattle.decoder.specs.StoreLoops.{Keeps, refusalNumber}
-use Rattle.decoder.proofs.shelf.offer.Statement.{statement}
-use Rattle.decoder.proofs.shelf.offer.Tie as tie
+use Rattle.decoder.proofs.store.offer.Statement.{statement}
+use Rattle.decoder.proofs.store.offer.Tie as tie
 
 handed-on : (L : ℕ) (buffer : List ℕ) (count : ℕ) (reading : Reading) (n : ℕ) → reading ≡ refused n
-    → Keeps (shelvedReading L buffer count reading) (Refused n) buffer
-unfolding shelvedReading
+    → Keeps (storeReading L buffer count reading) (Refused n) buffer
+unfolding storeReading
 handed-on L buffer count reading n e = rw e (record { says = refl; leaves = refl })
 
 -- the card was not refused, so this is the read check's answer
@@ -51,7 +51,7 @@ returns c =
     let check = told .before .before .before in
     let args = check .before .before .before .before .args in
     rw (c .refusal-of .ensures ∙ ap refusalNumber (told .enum-told .given .1))
-    (handed-on (args .card .l) (args .shelf .now) (args .count) _ _
+    (handed-on (args .card .l) (args .store .now) (args .count) _ _
     (refuses _ _ _ _ (answered check) _ (told .enum-told .given .1)))
 
 array-share-prefix-payload : tie.Need-array-share-prefix-payload
@@ -60,18 +60,18 @@ array-share-prefix-payload c =
     let check = told .before .before .before .before in
     omega (arith, size told, length-take (check .before .before .before .before .args .card .l) (check .check-strand .result .payload))
 
-slice-aggregate-shelve : tie.Need-slice-aggregate-shelve
-slice-aggregate-shelve c = sym (size (c .before .before .before))
+slice-aggregate-store-droplet : tie.Need-slice-aggregate-store-droplet
+slice-aggregate-store-droplet c = sym (size (c .before .before .before))
 
-shelve-requires : tie.Need-shelve-requires
-shelve-requires c κs =
+store-droplet-requires : tie.Need-store-droplet-requires
+store-droplet-requires c κs =
     let told = c .before .before .before in
     rw (size told) (told .before .before .before .before .before .before .before .before .pre .0)
 
 returns-2 : tie.Need-returns-2
 returns-2 c =
     let told = c .before .before .before .before .before .before in
-    rw (legal told .accepted, ← legal told .first) (rw (size told) at (c .before .before .shelve .ensures))
+    rw (legal told .accepted, ← legal told .first) (rw (size told) at (c .before .before .store-droplet .ensures))
 
 pub offer-spec : {M : Type 1} → statement M
 offer-spec =
@@ -84,7 +84,7 @@ offer-spec =
     returns
     (λ c. search needs)
     array-share-prefix-payload
-    slice-aggregate-shelve
-    shelve-requires
+    slice-aggregate-store-droplet
+    store-droplet-requires
     (λ c. search needs)
     returns-2)

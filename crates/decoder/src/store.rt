@@ -3,7 +3,7 @@ ghost use Prim.Native.Nat.{_≤_};
 ghost use lib.ListN.{length, take};
 ghost use Rattle.droplet.specs.Questions.{cardRefusal};
 ghost use Rattle.strand.specs.ReadCheck.{droplet, readCheck};
-ghost use Rattle.decoder.specs.Shelf.{sameBytes, countFits, appended, shelvedReading, StorePromise};
+ghost use Rattle.decoder.specs.Store.{sameBytes, countFits, appended, storeReading, StorePromise};
 ghost use Rattle.decoder.specs.StoreLoops.{Within, Sought, Keeps, refusalNumber};
 use droplet::card;
 use droplet::card::Card;
@@ -41,35 +41,35 @@ pub fn starts_with(bytes: &[u8], front: &[u8]) -> bool
 }
 
 // Question 14. The product could pass the largest number, the quotient cannot.
-pub fn count_fits(shelf: &[u8], l: usize, count: usize) -> bool
+pub fn count_fits(store: &[u8], l: usize, count: usize) -> bool
     requires { ⌜ l ≤ 64 ⌝ }
-    ensures { λ r. ⌜ r ≡ countFits l (now (shelf .entry)) count ⌝ }
+    ensures { λ r. ⌜ r ≡ countFits l (now (store .entry)) count ⌝ }
 {
-    count <= shelf.len() / (4 + l)
+    count <= store.len() / (4 + l)
 }
 
 // The first record of a seed. This is the longest loop of a store call: it looks at the seeds alone, two records a turn, and keeps
 // the place of the record instead of computing it from the number.
-fn find_seed(shelf: &[u8], l: usize, count: usize, seed: u32) -> Place
-    requires { ⌜ Within l count (now shelf) ⌝ }
-    ensures { λ r. ⌜ Sought l count (now (shelf .entry)) seed r ⌝ }
+fn find_seed(store: &[u8], l: usize, count: usize, seed: u32) -> Place
+    requires { ⌜ Within l count (now store) ⌝ }
+    ensures { λ r. ⌜ Sought l count (now (store .entry)) seed r ⌝ }
 {
     let width = 4 + l;
     let mut left = count;
     let mut at = 0;
     while 1 < left {
-        if records::seed_of(&shelf[at..]) == seed {
+        if records::seed_of(&store[at..]) == seed {
             return Place::At(at);
         }
         let next = at + width;
-        if records::seed_of(&shelf[next..]) == seed {
+        if records::seed_of(&store[next..]) == seed {
             return Place::At(next);
         }
         at = next + width;
         left -= 2;
     }
     if left == 1 {
-        if records::seed_of(&shelf[at..]) == seed {
+        if records::seed_of(&store[at..]) == seed {
             return Place::At(at);
         }
     }
@@ -77,30 +77,30 @@ fn find_seed(shelf: &[u8], l: usize, count: usize, seed: u32) -> Place
 }
 
 // Appends a record, if there is space for it: question 16.
-fn append(shelf: &mut [u8], count: usize, seed: u32, payload: &[u8]) -> StoreAnswer
-    requires { ⌜ Within (length (now payload)) count (now shelf) ⌝ }
-    ensures { λ r. ⌜ Keeps (appended (length (now (payload .entry))) (now (shelf .entry)) count (record { seed = seed; payload = now (payload .entry) })) r (now (shelf .exit)) ⌝ }
+fn append(store: &mut [u8], count: usize, seed: u32, payload: &[u8]) -> StoreAnswer
+    requires { ⌜ Within (length (now payload)) count (now store) ⌝ }
+    ensures { λ r. ⌜ Keeps (appended (length (now (payload .entry))) (now (store .entry)) count (record { seed = seed; payload = now (payload .entry) })) r (now (store .exit)) ⌝ }
 {
     let width = 4 + payload.len();
     let at = count * width;
-    if shelf.len() - at < width {
+    if store.len() - at < width {
         return StoreAnswer::Refused(16);
     }
     let end = at + width;
-    records::put_record(seed, payload, &mut shelf[at..end]);
+    records::put_record(seed, payload, &mut store[at..end]);
     StoreAnswer::Accepted(count + 1)
 }
 
 // Takes a droplet in: question 15, of the first record of its seed, and where there is none question 16.
-fn shelve(shelf: &mut [u8], count: usize, seed: u32, payload: &[u8]) -> StoreAnswer
-    requires { ⌜ Within (length (now payload)) count (now shelf) ⌝ }
-    ensures { λ r. ⌜ Keeps (shelvedReading (length (now (payload .entry))) (now (shelf .entry)) count (droplet seed (now (payload .entry)))) r (now (shelf .exit)) ⌝ }
+fn store_droplet(store: &mut [u8], count: usize, seed: u32, payload: &[u8]) -> StoreAnswer
+    requires { ⌜ Within (length (now payload)) count (now store) ⌝ }
+    ensures { λ r. ⌜ Keeps (storeReading (length (now (payload .entry))) (now (store .entry)) count (droplet seed (now (payload .entry)))) r (now (store .exit)) ⌝ }
 {
-    let Place::At(at) = find_seed(shelf, payload.len(), count, seed) else {
-        return append(shelf, count, seed, payload);
+    let Place::At(at) = find_seed(store, payload.len(), count, seed) else {
+        return append(store, count, seed, payload);
     };
     let from = at + 4;
-    if starts_with(&shelf[from..], payload) {
+    if starts_with(&store[from..], payload) {
         return StoreAnswer::Repeat(count);
     }
     StoreAnswer::Refused(15)
@@ -118,9 +118,9 @@ fn refusal_of(outcome: ReadOutcome) -> u8
 
 // The questions 9 to 13, 15 and 16: the droplet is taken out of the read check's answer, or its refusal is handed on. The card's
 // own questions have been asked, so the weights are not summed again; they are lent for the contract alone.
-fn offer(card: Card, weights: &[u8], shelf: &mut [u8], count: usize, read: &[u8]) -> StoreAnswer
-    requires { ⌜ Within (card .l) count (now shelf) × (cardRefusal card (now weights) ≡ 0) ⌝ }
-    ensures { λ r. ⌜ Keeps (shelvedReading (card .l) (now (shelf .entry)) count (readCheck card (now (weights .entry)) (now (read .entry)))) r (now (shelf .exit)) ⌝ }
+fn offer(card: Card, weights: &[u8], store: &mut [u8], count: usize, read: &[u8]) -> StoreAnswer
+    requires { ⌜ Within (card .l) count (now store) × (cardRefusal card (now weights) ≡ 0) ⌝ }
+    ensures { λ r. ⌜ Keeps (storeReading (card .l) (now (store .entry)) count (readCheck card (now (weights .entry)) (now (read .entry)))) r (now (store .exit)) ⌝ }
 {
     let answer = read_check::check_strand(card, read);
     let outcome = answer.outcome;
@@ -129,25 +129,25 @@ fn offer(card: Card, weights: &[u8], shelf: &mut [u8], count: usize, read: &[u8]
         return StoreAnswer::Refused(refusal_of(outcome));
     };
     let l = card.l as usize;
-    shelve(shelf, count, seed, &payload[..l])
+    store_droplet(store, count, seed, &payload[..l])
 }
 
-// Offers a read to the shelf: the questions 2 to 4, 14, and then those of the read and its record. The next call is handed the
+// Offers a read to the store: the questions 2 to 4, 14, and then those of the read and its record. The next call is handed the
 // count in the answer, or after a refusal the same as this one.
 pub fn store_read(
     card: Card,
     weights: &[u8],
-    shelf: &mut [u8],
+    store: &mut [u8],
     count: usize,
     read: &[u8],
 ) -> StoreAnswer
-    ensures { λ r. ⌜ StorePromise card (now (weights .entry)) (now (shelf .entry)) count (now (read .entry)) r (now (shelf .exit)) ⌝ }
+    ensures { λ r. ⌜ StorePromise card (now (weights .entry)) (now (store .entry)) count (now (read .entry)) r (now (store .exit)) ⌝ }
 {
     if let PlanAnswer::Refused(n) = card::check_plan(card, weights) {
         return StoreAnswer::Refused(n);
     }
-    if count_fits(shelf, card.l as usize, count) {
-        return offer(card, weights, shelf, count, read);
+    if count_fits(store, card.l as usize, count) {
+        return offer(card, weights, store, count, read);
     }
     StoreAnswer::Refused(14)
 }

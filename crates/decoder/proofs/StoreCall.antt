@@ -1,4 +1,4 @@
--- One shelving call over a shelf that holds the first of some records, as many as fit: it holds these with the read's, if the
+-- One store call over a store that holds the first of some records, as many as fit: it holds these with the read's, if the
 -- read is legal and its seed new, again as many as fit. Assumes nothing.
 use mathlib.Core.Path.{_≡_, sym, ap, ap₂, _∙_}
 use mathlib.Core.Bool.{true, cond}
@@ -14,7 +14,7 @@ use lib.Seq.{take-all, take-append-le}
 use Rattle.field.specs.Bytes.{All}
 use Rattle.field.proofs.Tests.{either}
 use Rattle.strand.specs.ReadCheck.{Reading, droplet, refused}
-use Rattle.decoder.specs.Shelf.{Record, Found, found, absent, findSeed, records, recordsText, sameBytes, Shelved, accepted, repeat, refusal, Kept, keptAnswer, keptBuffer, appended, compared, shelvedReading, countFits}
+use Rattle.decoder.specs.Store.{Record, Found, found, absent, findSeed, records, recordsText, sameBytes, Stored, accepted, repeat, refusal, Kept, keptAnswer, keptBuffer, appended, compared, storeReading, countFits}
 use Rattle.decoder.specs.Restorer.{hasSeed}
 use Rattle.decoder.specs.Demand3.{Holds}
 use Rattle.decoder.proofs.AllOf.{all-front}
@@ -27,7 +27,7 @@ abbrev pub room : ℕ → List ℕ → ℕ
 room L lent = length lent / (4 + L)
 
 -- the count that the next call is handed
-abbrev pub countAfter : ℕ → Shelved → ℕ
+abbrev pub countAfter : ℕ → Stored → ℕ
 countAfter count (accepted n) = n
 countAfter count (repeat n) = n
 countAfter count (refusal q) = count
@@ -37,7 +37,7 @@ abbrev pub grown : List Record → Reading → List Record
 grown rs (droplet s p) = cond (hasSeed s rs) rs (rs ++ (record { seed = s; payload = p } ∷ []))
 grown rs (refused q) = rs
 
--- after a call the shelf holds as many of these records as fit
+-- after a call the store holds as many of these records as fit
 abbrev pub HoldsAfter : ℕ → List ℕ → List Record → ℕ → Kept → Type 0
 HoldsAfter L lent rs count k = Holds L lent (take (room L lent) rs) (keptBuffer k) (countAfter count (keptAnswer k))
 
@@ -111,8 +111,8 @@ module _ (L : ℕ) (lent : List ℕ) where
         rw (front-has s (room L lent) rs (found-has s (take (room L lent) rs) q e))
         (elim (either (sameBytes q p)) [ inl t ↦ rw t h | inr t ↦ rw t h ])
 
-    pub reading-holds : (o : Reading) → Recordable L o → HoldsAfter L lent (grown rs o) count (shelvedReading L buffer count o)
-    unfolding shelvedReading
+    pub reading-holds : (o : Reading) → Recordable L o → HoldsAfter L lent (grown rs o) count (storeReading L buffer count o)
+    unfolding storeReading
     reading-holds (refused q) f = h
     reading-holds (droplet s p) f =
         compared-holds s p f (findSeed s (records L count buffer)) (ap (findSeed s) (sym (held-records (take (room L lent) rs) buffer count held-good h)))

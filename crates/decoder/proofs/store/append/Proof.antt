@@ -9,12 +9,12 @@ use borrow.Author.Tests.{le-leb, lt-leb}
 use lib.ListN.{length, take, drop, length-take, drop-of-length-le}
 use lib.Seq.{drop-drop}
 use Rattle.field.specs.Bytes.{toBigEndian}
-use Rattle.decoder.specs.declared.shelf.StoreAnswer.the-variants.{Accepted, Refused}
-use Rattle.decoder.specs.Shelf.{Record, recordText, accepted, appended}
+use Rattle.decoder.specs.declared.store.StoreAnswer.the-variants.{Accepted, Refused}
+use Rattle.decoder.specs.Store.{Record, recordText, accepted, appended}
 use Rattle.decoder.specs.StoreLoops.{Keeps}
 use borrow.Author.Needs.{needs}
-use Rattle.decoder.proofs.shelf.append.Statement.{statement}
-use Rattle.decoder.proofs.shelf.append.Tie as tie
+use Rattle.decoder.proofs.store.append.Statement.{statement}
+use Rattle.decoder.proofs.store.append.Tie as tie
 
 module _ (buffer : List ℕ) (count seed : ℕ) (payload : List ℕ) where
   abbrev width : ℕ
@@ -53,12 +53,12 @@ module _ (buffer : List ℕ) (count seed : ℕ) (payload : List ℕ) where
 returns : tie.Need-returns
 returns c =
     let args = c .before .before .before .args in
-    full (args .shelf .now) (args .count) (args .seed) (args .payload .now) (omega arith)
+    full (args .store .now) (args .count) (args .seed) (args .payload .now) (omega arith)
 
 returns-2 : tie.Need-returns-2
 returns-2 c =
     let args = c .before .before .before .before .before .before .before .args in
-    more (args .shelf .now) (args .count) (args .seed) (args .payload .now) _ (omega arith) (c .before .before .put-record .ensures)
+    more (args .store .now) (args .count) (args .seed) (args .payload .now) _ (omega arith) (c .before .before .put-record .ensures)
 
 pub append-spec : {M : Type 1} → statement M
 append-spec =

@@ -1,4 +1,4 @@
--- `recover` meets its contract: what is cleared, peeled and counted is the definition's sheet. Assumes nothing.
+-- `make_sheet` meets its contract: what is cleared, peeled and counted is the definition's sheet. Assumes nothing.
 use mathlib.Core.Path.{_≡_, refl, sym, ap, _∙_}
 use mathlib.Core.List.{List, _++_}
 use Prim.Native.Nat.{ℕ, suc, _*_, _≤_}
@@ -8,13 +8,13 @@ use lib.ListN.{length, take, drop, replicate, length-append, length-replicate, l
 use lib.Seq.{length-take-le}
 use Rattle.droplet.specs.PoolCard.{weightCount}
 use Rattle.decoder.specs.declared.restorer.Peeling.{Peeling}
-use Rattle.decoder.specs.Restorer.{Droplet, State, peeled, peeledState, present, peel, cleared, restoration, contradictions, sheetOf}
-use Rattle.decoder.specs.Loops.{Ended, Recovered}
+use Rattle.decoder.specs.Restorer.{Droplet, State, peeled, peeledState, present, peel, cleared, peelAll, contradictions, sheetOf}
+use Rattle.decoder.specs.Loops.{Ended, MadeSheet}
 use Rattle.decoder.proofs.ClearedState.{cleared-present}
 use Rattle.decoder.proofs.RestoreLoops.{room-stays}
 use borrow.Author.Needs.{needs}
-use Rattle.decoder.proofs.restorer.recover.Statement.{statement}
-use Rattle.decoder.proofs.restorer.recover.Tie as tie
+use Rattle.decoder.proofs.restorer.make_sheet.Statement.{statement}
+use Rattle.decoder.proofs.restorer.make_sheet.Tie as tie
 
 -- the buffers with zeros in their fronts
 module _ (K L : ℕ) (file marks f m : List ℕ) (fileFits : K * L ≤ length file) (marksFit : K ≤ length marks)
@@ -39,13 +39,13 @@ module _ (K L : ℕ) (file marks f m : List ℕ) (fileFits : K * L ≤ length fi
       (ended : Ended K weights (peel (suc K) K L ds 0 start) list file′ marks′ between p)
       (counted : n ≡ contradictions L ds (record { file = file′; marks = marks′ }))
       (rest : drop (weightCount weights) list′ ≡ drop (weightCount weights) between) where
-    whole : peeled (p .passes) (record { file = file′; marks = marks′ }) ≡ restoration K L ds file marks
-    unfolding restoration
+    whole : peeled (p .passes) (record { file = file′; marks = marks′ }) ≡ peelAll K L ds file marks
+    unfolding peelAll
     whole = ended .state ∙ ap (peel (suc K) K L ds 0) start-is
 
-    recovered : Recovered K L weights ds (restoration K L ds file marks) list file′ marks′ list′
+    known : MadeSheet K L weights ds (peelAll K L ds file marks) list file′ marks′ list′
         (record { present = p .present; passes = p .passes; contradictions = n })
-    recovered = record {
+    known = record {
       sheet = rw (ended .count, counted) (ap (sheetOf K L ds) whole);
       state = ap peeledState whole;
       rest = rest ∙ ended .rest;
@@ -91,11 +91,11 @@ returns c =
     let x = c .before .before .before .before .before .before .before .before .before .before .before .before .before .before .before .before .before .before .before .before .before .before .before .before .before .before .before .before .before .before in
     let room = x .pre .1 in
     let last = c .before .before .count-contradictions .ensures in
-    recovered _ (x .args .l) (x .args .file .now) (x .args .marks .now) _ _ (room .fileFits) (room .marksFit) (c .before .before .before .before .before .before .before .before .before .before .before .before .before .before .before .before .before .before .before .before .before .before .clear .ensures) (c .before .before .before .before .before .before .before .before .before .before .before .before .before .before .before .before .before .before .clear2 .ensures)
+    known _ (x .args .l) (x .args .file .now) (x .args .marks .now) _ _ (room .fileFits) (room .marksFit) (c .before .before .before .before .before .before .before .before .before .before .before .before .before .before .before .before .before .before .before .before .before .before .clear .ensures) (c .before .before .before .before .before .before .before .before .before .before .before .before .before .before .before .before .before .before .clear2 .ensures)
     _ _ _ _ _ _ _ _ _ (c .before .before .before .before .before .before .before .before .before .before .before .before .peel .ensures) (last .0) (last .1)
 
-pub recover-spec : {M : Type 1} → statement M
-recover-spec =
+pub make-sheet-spec : {M : Type 1} → statement M
+make-sheet-spec =
     tie.close
     (tie.spec
     (λ c. search needs)

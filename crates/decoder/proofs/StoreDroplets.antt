@@ -1,4 +1,4 @@
--- The droplets on a shelf: payloads of L bytes each where the count fits, bytes where the buffer has bytes. Assumes nothing.
+-- The droplets in a store: payloads of L bytes each where the count fits, bytes where the buffer has bytes. Assumes nothing.
 use mathlib.Core.Path.{_≡_}
 use mathlib.Core.List.{List}
 use Prim.Native.Nat.{ℕ, zero, suc, _+_, _*_, _≤_, _<_}
@@ -10,7 +10,7 @@ use Rattle.field.proofs.ByteLists.{all-take, all-drop}
 use Rattle.droplet.specs.declared.card.Card.{Card}
 use Rattle.droplet.specs.PoolCard.{segmentCount}
 use Rattle.droplet.specs.Droplet.{segmentsOf}
-use Rattle.decoder.specs.Shelf.{recordFrom, records}
+use Rattle.decoder.specs.Store.{recordFrom, records}
 use Rattle.decoder.specs.Restorer.{droplets}
 use Rattle.decoder.proofs.AllOf.{all-map, all-mapped}
 use Rattle.decoder.proofs.PoolShapes.{IsDroplet}

@@ -1,4 +1,4 @@
--- Document 01, "Shelf": a buffer and a count of records from its start, and the shelving call with its questions 14 to 16.
+-- Document 01, "Shelf": a buffer and a count of records from its start, and the store call with its questions 14 to 16.
 -- Assumes nothing.
 use mathlib.Core.Path.{_≡_}
 use mathlib.Core.Bool.{Bool, true, false, cond, _&&_}
@@ -10,8 +10,8 @@ use Rattle.field.specs.Bytes.{fromBigEndian, toBigEndian}
 use Rattle.droplet.specs.declared.card.Card.{Card}
 use Rattle.droplet.specs.Questions.{cardRefusal}
 use Rattle.strand.specs.ReadCheck.{Reading, droplet, refused, readCheck}
-use Rattle.decoder.specs.declared.shelf.StoreAnswer.{StoreAnswer}
-use Rattle.decoder.specs.declared.shelf.StoreAnswer.the-variants as answer
+use Rattle.decoder.specs.declared.store.StoreAnswer.{StoreAnswer}
+use Rattle.decoder.specs.declared.store.StoreAnswer.the-variants as answer
 
 -- "a record is seed and payload, 4 + L bytes"
 pub record Record : Type 0 where
@@ -48,22 +48,22 @@ unfoldable pub findSeed : ℕ → List Record → Found
 findSeed s [] = absent
 findSeed s (r ∷ rs) = cond (eqb (r .seed) s) (found (r .payload)) (findSeed s rs)
 
--- what a shelving call answers, by its cases: the count after it, or the refusal number
-pub data Shelved : Type 0 where
-  accepted : ℕ → Shelved
-  repeat : ℕ → Shelved
-  refusal : ℕ → Shelved
+-- what a store call answers, by its cases: the count after it, or the refusal number
+pub data Stored : Type 0 where
+  accepted : ℕ → Stored
+  repeat : ℕ → Stored
+  refusal : ℕ → Stored
 
-abbrev pub storeAnswer : StoreAnswer → Shelved
+abbrev pub storeAnswer : StoreAnswer → Stored
 storeAnswer (answer.Accepted n) = accepted n
 storeAnswer (answer.Repeat n) = repeat n
 storeAnswer (answer.Refused q) = refusal q
 
 -- the answer with the buffer after the call
 pub data Kept : Type 0 where
-  kept : Shelved → List ℕ → Kept
+  kept : Stored → List ℕ → Kept
 
-abbrev pub keptAnswer : Kept → Shelved
+abbrev pub keptAnswer : Kept → Stored
 keptAnswer (kept a b) = a
 
 abbrev pub keptBuffer : Kept → List ℕ
@@ -82,23 +82,23 @@ compared L buffer count r absent = appended L buffer count r
 compared L buffer count r (found p) = cond (sameBytes p (r .payload)) (kept (repeat count) buffer) (kept (refusal 15) buffer)
 
 -- "The caller takes the droplet out of the read check's answer, or hands its refusal on"
-unfoldable pub shelvedReading : ℕ → List ℕ → ℕ → Reading → Kept
-shelvedReading L buffer count (refused q) = kept (refusal q) buffer
-shelvedReading L buffer count (droplet s p) =
+unfoldable pub storeReading : ℕ → List ℕ → ℕ → Reading → Kept
+storeReading L buffer count (refused q) = kept (refusal q) buffer
+storeReading L buffer count (droplet s p) =
     compared L buffer count (record { seed = s; payload = p }) (findSeed s (records L count buffer))
 
 -- 14: "count times (4+L) within the shelf?"
 abbrev pub countFits : ℕ → List ℕ → ℕ → Bool
 countFits L buffer count = leb (count * (4 + L)) (length buffer)
 
--- the shelving call: 2 to 4, 14, 9 to 13, 15, 16
-unfoldable pub shelving : Card → List ℕ → List ℕ → ℕ → List ℕ → Kept
-shelving c weights buffer count read =
+-- the store call: 2 to 4, 14, 9 to 13, 15, 16
+unfoldable pub storeRead : Card → List ℕ → List ℕ → ℕ → List ℕ → Kept
+storeRead c weights buffer count read =
     cond (eqb (cardRefusal c weights) 0)
-    (cond (countFits (c .l) buffer count) (shelvedReading (c .l) buffer count (readCheck c weights read)) (kept (refusal 14) buffer))
+    (cond (countFits (c .l) buffer count) (storeReading (c .l) buffer count (readCheck c weights read)) (kept (refusal 14) buffer))
     (kept (refusal (cardRefusal c weights)) buffer)
 
--- the promise of the shelving call: its answer and the buffer at exit
+-- the promise of the store call: its answer and the buffer at exit
 pub record StorePromise (c : Card) (weights buffer : List ℕ) (count : ℕ) (read : List ℕ) (r : StoreAnswer) (buffer′ : List ℕ) : Type 0 where
-  pub says : storeAnswer r ≡ keptAnswer (shelving c weights buffer count read)
-  pub leaves : buffer′ ≡ keptBuffer (shelving c weights buffer count read)
+  pub says : storeAnswer r ≡ keptAnswer (storeRead c weights buffer count read)
+  pub leaves : buffer′ ≡ keptBuffer (storeRead c weights buffer count read)

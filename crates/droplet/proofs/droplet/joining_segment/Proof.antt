@@ -1,9 +1,9 @@
 -- `joining_segment` meets its contract: membership decides what joins. Assumes nothing.
 use mathlib.Core.Path.{sym, _∙_}
 use Rattle.droplet.proofs.Picking.{joins-taken, joins-free}
 use borrow.Author.Needs.{needs}
-use Rattle.decoder.proofs.restorer.joining_segment.Statement.{statement}
-use Rattle.decoder.proofs.restorer.joining_segment.Tie as tie
+use Rattle.droplet.proofs.droplet.joining_segment.Statement.{statement}
+use Rattle.droplet.proofs.droplet.joining_segment.Tie as tie
 
 returns : tie.Need-returns
 returns c = rw (← (c .before .before .number .ensures)) (sym (joins-taken _ _ _ (sym (c .before .has-joined .ensures) ∙ c .if1 .taken)))

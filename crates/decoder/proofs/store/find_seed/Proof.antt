@@ -10,26 +10,26 @@ use borrow.Author.Tests.{eq-eqb, ne-eqb}
 use lib.ListN.{length, take, drop}
 use lib.Seq.{drop-drop}
 use Rattle.field.specs.Bytes.{fromBigEndian}
-use Rattle.decoder.specs.Shelf.{Found, found, absent, recordFrom, records, findSeed}
+use Rattle.decoder.specs.Store.{Found, found, absent, recordFrom, records, findSeed}
 use Rattle.decoder.proofs.BufferParts.{rest-whole}
-use Rattle.decoder.proofs.shelf.find_seed.Statement.{statement}
-use Rattle.decoder.proofs.shelf.find_seed.Tie as tie
+use Rattle.decoder.proofs.store.find_seed.Statement.{statement}
+use Rattle.decoder.proofs.store.find_seed.Tie as tie
 
 -- what the search gives over the first n records from a place on
 abbrev sought : ℕ → ℕ → List ℕ → ℕ → ℕ → Found
-sought L seed shelf at n = findSeed seed (records L n (drop at shelf))
+sought L seed store at n = findSeed seed (records L n (drop at store))
 
 -- a turn of the search, at the record from `at` on, with `next` records after it
-record Turn (L seed : ℕ) (shelf : List ℕ) (at left next : ℕ) : Type 0 where
-  within : at + (4 + L) ≤ length shelf
-  rest : next * (4 + L) + (at + (4 + L)) ≤ length shelf
-  hit : fromBigEndian (take 4 (drop at shelf)) ≡ seed → sought L seed shelf at left ≡ found (take L (drop (at + 4) shelf))
-  miss : (fromBigEndian (take 4 (drop at shelf)) ≡ seed → ⊥) → sought L seed shelf (at + (4 + L)) next ≡ sought L seed shelf at left
+record Turn (L seed : ℕ) (store : List ℕ) (at left next : ℕ) : Type 0 where
+  within : at + (4 + L) ≤ length store
+  rest : next * (4 + L) + (at + (4 + L)) ≤ length store
+  hit : fromBigEndian (take 4 (drop at store)) ≡ seed → sought L seed store at left ≡ found (take L (drop (at + 4) store))
+  miss : (fromBigEndian (take 4 (drop at store)) ≡ seed → ⊥) → sought L seed store (at + (4 + L)) next ≡ sought L seed store at left
 
-turn : (L seed : ℕ) (shelf : List ℕ) (at left next : ℕ) → left ≡ suc next → left * (4 + L) + at ≤ length shelf
-    → Turn L seed shelf at left next
+turn : (L seed : ℕ) (store : List ℕ) (at left next : ℕ) → left ≡ suc next → left * (4 + L) + at ≤ length store
+    → Turn L seed store at left next
 unfolding records recordFrom findSeed
-turn L seed shelf at left next more fits =
+turn L seed store at left next more fits =
     let size : left * (4 + L) ≡ next * (4 + L) + (4 + L) = rw more (suc-mul next (4 + L)) in
     record {
       within = omega arith;
@@ -43,31 +43,31 @@ unfolding records findSeed
 none L seed left buffer e = rw e
 
 abbrev Inv-loop : tie.InvT-loop
-Inv-loop shelf l count seed width left₀ at₀ left at =
-    (left * (4 + l) + at ≤ length shelf) × (sought l seed shelf at left ≡ sought l seed shelf 0 count)
+Inv-loop store l count seed width left₀ at₀ left at =
+    (left * (4 + l) + at ≤ length store) × (sought l seed store at left ≡ sought l seed store 0 count)
 
 abbrev μ-loop : tie.MeasureT-loop
-μ-loop shelf l count seed width left₀ at₀ left at = left
+μ-loop store l count seed width left₀ at₀ left at = left
 
 -- the two turns in a turn of the loop, and the last one
 first : (c : tie.In-loop Inv-loop μ-loop) → (let args = c .before .before .before .args in
-    Turn (args .l) (args .seed) (args .shelf .now) (c .before .loop .at) (c .before .loop .left) (c .before .loop .left - 1))
+    Turn (args .l) (args .seed) (args .store .now) (c .before .loop .at) (c .before .loop .left) (c .before .loop .left - 1))
 first c = turn _ _ _ _ (c .before .loop .left) _ (omega arith) (c .before .loop .inv .0)
 
 second : (c : tie.In-loop Inv-loop μ-loop) → (let args = c .before .before .before .args in
-    Turn (args .l) (args .seed) (args .shelf .now) (c .before .loop .at + (4 + args .l)) (c .before .loop .left - 1) (c .before .loop .left - 2))
+    Turn (args .l) (args .seed) (args .store .now) (c .before .loop .at + (4 + args .l)) (c .before .loop .left - 1) (c .before .loop .left - 2))
 second c = turn _ _ _ _ (c .before .loop .left - 1) _ (omega arith) (first c .rest)
 
 last : (c : tie.Then3 Inv-loop μ-loop) → (let loop = c .before .before in
     let args = loop .before .before .args in
-    Turn (args .l) (args .seed) (args .shelf .now) (loop .loop .at) (loop .loop .left) 0)
+    Turn (args .l) (args .seed) (args .store .now) (loop .loop .at) (loop .loop .left) 0)
 last c = turn _ _ _ _ (c .before .before .loop .left) _ (omega arith) (c .before .before .loop .inv .0)
 
 -- the first record was not of the seed
 missed : (c : tie.Else1 Inv-loop μ-loop) → (let now = c .before .before .before in
     let args = now .before .before .before .args in
-    sought (args .l) (args .seed) (args .shelf .now) (now .before .loop .at + (4 + args .l)) (now .before .loop .left - 1)
-    ≡ sought (args .l) (args .seed) (args .shelf .now) 0 (args .count))
+    sought (args .l) (args .seed) (args .store .now) (now .before .loop .at + (4 + args .l)) (now .before .loop .left - 1)
+    ≡ sought (args .l) (args .seed) (args .store .now) 0 (args .count))
 missed c =
     let now = c .before .before .before in
     let seed = rw rest-whole at (c .before .seed-of .ensures) in

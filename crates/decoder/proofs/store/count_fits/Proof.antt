@@ -8,8 +8,8 @@ use borrow.Author.Tests.{le-leb, lt-leb}
 use lib.Dec.{leb}
 use lib.ListN.{length}
 use borrow.Author.Needs.{needs}
-use Rattle.decoder.proofs.shelf.count_fits.Statement.{statement}
-use Rattle.decoder.proofs.shelf.count_fits.Tie as tie
+use Rattle.decoder.proofs.store.count_fits.Statement.{statement}
+use Rattle.decoder.proofs.store.count_fits.Tie as tie
 
 within-quotient : (count width size : ℕ) → 0 < width → leb count (size / width) ≡ leb (count * width) size
 within-quotient count width size h =
@@ -21,7 +21,7 @@ within-quotient count width size h =
     ]
 
 returns : tie.Need-returns
-returns c = within-quotient (c .args .count) (4 + c .args .l) (length (c .args .shelf .now)) (omega arith)
+returns c = within-quotient (c .args .count) (4 + c .args .l) (length (c .args .store .now)) (omega arith)
 
 pub count-fits-spec : {M : Type 1} → statement M
 count-fits-spec = tie.close (tie.spec (λ c. search needs) (λ c. search needs) returns)

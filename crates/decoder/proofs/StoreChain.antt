@@ -1,4 +1,4 @@
--- A list of shelving calls from an empty shelf leaves the first legal read of each seed, in the order offered, as many as fit;
+-- A list of store calls from an empty store leaves the first legal read of each seed, in the order offered, as many as fit;
 -- and there is such a list for every list of reads. Assumes nothing.
 use mathlib.Core.Path.{_≡_, refl, sym, ap}
 use mathlib.Core.List.{List, [], _∷_, _++_, append-assoc, append-nil}
@@ -12,15 +12,15 @@ use Rattle.field.proofs.Tests.{either}
 use Rattle.droplet.specs.declared.card.Card.{Card}
 use Rattle.droplet.specs.Questions.{cardRefusal}
 use Rattle.strand.specs.ReadCheck.{Reading, droplet, refused, readCheck}
-use Rattle.decoder.specs.declared.shelf.StoreAnswer.{StoreAnswer}
-use Rattle.decoder.specs.declared.shelf.StoreAnswer.the-variants as store
-use Rattle.decoder.specs.Shelf.{Record, recordsText, Shelved, accepted, repeat, refusal, storeAnswer, keptAnswer, keptBuffer, shelving, StorePromise}
+use Rattle.decoder.specs.declared.store.StoreAnswer.{StoreAnswer}
+use Rattle.decoder.specs.declared.store.StoreAnswer.the-variants as reply
+use Rattle.decoder.specs.Store.{Record, recordsText, Stored, accepted, repeat, refusal, storeAnswer, keptAnswer, keptBuffer, storeRead, StorePromise}
 use Rattle.decoder.specs.Restorer.{hasSeed}
-use Rattle.decoder.specs.Demand3.{keptReading, legalReads, firstOfSeed, shelfRecords, Holds, Call, readsOf, nextCount, Chained, lastBuffer, lastCount}
+use Rattle.decoder.specs.Demand3.{keptReading, legalReads, firstOfSeed, storedRecords, Holds, Call, readsOf, nextCount, Chained, lastBuffer, lastCount}
 use Rattle.decoder.proofs.AllOf.{all-snoc}
 use Rattle.decoder.proofs.RecordBytes.{IsRecord}
 use Rattle.decoder.proofs.LegalRead.{InReading, read-recordable}
-use Rattle.decoder.proofs.ShelfCall.{room, countAfter, grown, HoldsAfter, held-fits, reading-holds}
+use Rattle.decoder.proofs.StoreCall.{room, countAfter, grown, HoldsAfter, held-fits, reading-holds}
 
 -- ---- the records so far
 
@@ -38,17 +38,17 @@ grown-all P rs (droplet s p) f good =
     elim (either (hasSeed s rs)) [ inl e ↦ rw e good | inr e ↦ rw e (all-snoc P rs (record { seed = s; payload = p }) good f) ]
 
 count-next : (count : ℕ) (a : StoreAnswer) → nextCount count a ≡ countAfter count (storeAnswer a)
-count-next count (store.Accepted n) = refl
-count-next count (store.Repeat n) = refl
-count-next count (store.Refused q) = refl
+count-next count (reply.Accepted n) = refl
+count-next count (reply.Repeat n) = refl
+count-next count (reply.Refused q) = refl
 
 -- ---- a list of calls
 
 module _ (c : Card) (weights : List ℕ) (fine : cardRefusal c weights ≡ 0) (lent : List ℕ) where
   call-holds : (rs : List Record) → All (IsRecord (c .l)) rs → (buffer : List ℕ) (count : ℕ)
       → Holds (c .l) lent (take (room (c .l) lent) rs) buffer count → (read : List ℕ)
-      → HoldsAfter (c .l) lent (grown rs (readCheck c weights read)) count (shelving c weights buffer count read)
-  unfolding shelving
+      → HoldsAfter (c .l) lent (grown rs (readCheck c weights read)) count (storeRead c weights buffer count read)
+  unfolding storeRead
   call-holds rs good buffer count h read =
       rw (fine, held-fits (c .l) lent rs good buffer count h)
       (reading-holds (c .l) lent rs good buffer count h (readCheck c weights read) (read-recordable c weights read))
@@ -71,20 +71,20 @@ module _ (c : Card) (weights : List ℕ) (fine : cardRefusal c weights ≡ 0) (l
       (promise-holds rs good buffer count h k (t .0)) ks (t .1))
 
   -- demand 3's opening sentence
-  pub shelf-holds : (calls : List Call) → Chained c weights lent 0 calls
-      → Holds (c .l) lent (shelfRecords c weights lent (readsOf calls)) (lastBuffer lent calls) (lastCount 0 calls)
-  unfolding shelfRecords
-  shelf-holds calls t =
+  pub store-holds : (calls : List Call) → Chained c weights lent 0 calls
+      → Holds (c .l) lent (storedRecords c weights lent (readsOf calls)) (lastBuffer lent calls) (lastCount 0 calls)
+  unfolding storedRecords
+  store-holds calls t =
       chain-holds [] tt lent 0 (rw take-nil (record { number = refl; bytes = unfold recordsText in rw zero-mul })) calls t
 
 -- ---- the calls of a list of reads
 
-answerOf : Shelved → StoreAnswer
-answerOf (accepted n) = store.Accepted n
-answerOf (repeat n) = store.Repeat n
-answerOf (refusal q) = store.Refused q
+answerOf : Stored → StoreAnswer
+answerOf (accepted n) = reply.Accepted n
+answerOf (repeat n) = reply.Repeat n
+answerOf (refusal q) = reply.Refused q
 
-answer-back : (a : Shelved) → storeAnswer (answerOf a) ≡ a
+answer-back : (a : Stored) → storeAnswer (answerOf a) ≡ a
 unfolding answerOf
 answer-back (accepted n) = refl
 answer-back (repeat n) = refl
@@ -93,7 +93,7 @@ answer-back (refusal q) = refl
 module _ (c : Card) (weights : List ℕ) where
   callOf : List ℕ → ℕ → List ℕ → Call
   callOf buffer count read =
-      let k = shelving c weights buffer count read in record { read = read; answer = answerOf (keptAnswer k); buffer = keptBuffer k }
+      let k = storeRead c weights buffer count read in record { read = read; answer = answerOf (keptAnswer k); buffer = keptBuffer k }
 
   pub chain-exists : (reads : List (List ℕ)) (buffer : List ℕ) (count : ℕ)
       → (calls : List Call) × Chained c weights buffer count calls × (readsOf calls ≡ reads)
@@ -103,6 +103,6 @@ module _ (c : Card) (weights : List ℕ) where
       let k = callOf buffer count r in
       let rest = chain-exists rs (k .buffer) (nextCount count (k .answer)) in (
         k ∷ rest .0,
-        (record { says = answer-back (keptAnswer (shelving c weights buffer count r)); leaves = refl }, rest .1),
+        (record { says = answer-back (keptAnswer (storeRead c weights buffer count r)); leaves = refl }, rest .1),
         ap (λ (l : List (List ℕ)). r ∷ l) (rest .2),
       )
