@@ -1,7 +1,7 @@
 -- The C forms of the card reader, the writer, storing and restoring: for each the number returned and the lent answer, by the
 -- cases of what the call itself answers, and with it the buffers. A refusal leaves the answer as it was. Assumes nothing.
 use mathlib.Core.Path.{_≡_}
-use mathlib.Core.Bool.{false, cond}
+use mathlib.Core.Bool.{false}
 use mathlib.Core.List.{List, [], _∷_}
 use Prim.Native.Nat.{ℕ}
 use lib.Dec.{eqb}
@@ -11,9 +11,7 @@ use Rattle.droplet.specs.PoolCard.{weightCount}
 use Rattle.droplet.specs.Questions.{CardRead}
 use Rattle.strand.specs.declared.writer.Stop.{Stop}
 use Rattle.strand.specs.declared.writer.Stop.the-variants.{Done, Spent}
-use Rattle.strand.specs.declared.writer.WriteAnswer.{WriteAnswer}
-use Rattle.strand.specs.declared.writer.WriteAnswer.the-variants as writing
-use Rattle.strand.specs.Writer.{writerRefusal, writerRun, runAnswer, WriterPromise}
+use Rattle.strand.specs.Writer.{Wrote, writerAnswer, WriterLeaves}
 use Rattle.decoder.specs.Store.{Stored, storeRead, keptAnswer, keptBuffer}
 use Rattle.decoder.specs.Restorer.{Restored, restore, restoreRefusal, endAnswer, endState}
 
@@ -32,22 +30,15 @@ stopNumber Done = 0
 stopNumber Spent = 1
 
 -- the writer: the stop, made, tried and the next seed
-unfoldable pub writeReturned : List ℕ → WriteAnswer → Returned
-writeReturned answer (writing.Written run) = returned 0 (stopNumber (run .stop) ∷ (run .made ∷ (run .tried ∷ (run .next ∷ []))))
-writeReturned answer (writing.Refused n) = returned n answer
+unfoldable pub writeReturned : List ℕ → Wrote → Returned
+writeReturned answer (Wrote.wrote stop made tried next) = returned 0 (stopNumber stop ∷ (made ∷ (tried ∷ (next ∷ []))))
+writeReturned answer (Wrote.refusal n) = returned n answer
 
--- what the writer answers, in the words of its promise
-abbrev pub writerAnswer : Card → List ℕ → List ℕ → ℕ → ℕ → ℕ → ℕ → ℕ → WriteAnswer
-writerAnswer c weights file start wanted budget buffer numbers =
-    let no = writerRefusal c weights file start wanted buffer numbers in
-    cond (eqb no 0) (runAnswer (writerRun c weights file start wanted budget)) (writing.Refused no)
-
--- the writer's C form: number and answer, and the writer's promise of that answer, which has buffer and number list at exit
+-- the writer's C form: number and answer, and buffer and number list at exit
 pub record WriteForm (c : Card) (weights file : List ℕ) (start wanted budget : ℕ) (out list answer : List ℕ) (n : ℕ)
     (out′ list′ answer′ : List ℕ) : Type 0 where
   pub returns : returned n answer′ ≡ writeReturned answer (writerAnswer c weights file start wanted budget (length out) (length list))
-  pub leaves : WriterPromise c weights file start wanted budget out list
-      (writerAnswer c weights file start wanted budget (length out) (length list)) out′ list′
+  pub leaves : WriterLeaves c weights file start wanted budget out list out′ list′
 
 -- storing: 0 for accepted, 1 for a repeat, and the count after it
 unfoldable pub storeReturned : List ℕ → Stored → Returned

@@ -19,7 +19,7 @@ use Rattle.strand.specs.Letters.{allLetters, lettersWord}
 use Rattle.strand.specs.Screen.{screenPasses}
 use Rattle.strand.specs.ReadCheck.{Reading, droplet, refused, wordSeed, sumsZero, wordReading, lettersReading, readCheck}
 use Rattle.decoder.specs.declared.store.StoreAnswer.the-variants as reply
-use Rattle.decoder.specs.Store.{Record, recordsText, records, Found, found, absent, findSeed, Stored, accepted, repeat, refusal, storeAnswer, keptAnswer, appended, compared, storeReading, storeRead}
+use Rattle.decoder.specs.Store.{Record, recordBytes, recordsText, records, Found, found, absent, findSeed, Stored, accepted, repeat, refusal, storeAnswer, keptAnswer, appended, compared, storeReading, storeRead}
 use Rattle.decoder.specs.Demand3.{Holds, Call, readsOf, nextCount, Chained}
 use Rattle.decoder.specs.Vault.{payloadFor, Job}
 use Rattle.decoder.proofs.AllOf.{all-front}
@@ -75,7 +75,7 @@ module _ (c : Card) (ws : List ℕ) (fine : cardRefusal c ws ≡ 0) where
         → numberOf (keptAnswer (compared (c .l) buffer count r o)) ≡ 15 → ⊥
     unfolding compared appended
     compared-other buffer count r absent same e =
-        elim (either (leb (suc count * (4 + c .l)) (length buffer))) [
+        elim (either (leb (suc count * recordBytes (c .l)) (length buffer))) [
           | inl t ↦ let n : _≡_ {A = ℕ} 0 15 = rw t at e in omega arith
           | inr t ↦ let n : _≡_ {A = ℕ} 16 15 = rw t at e in omega arith
         ]

@@ -1,14 +1,14 @@
 -- A strand that the writer prints for a file spells the word of a seed that passes the screen, from 1 to 2^32 - 1.
 -- Assumes nothing.
 use mathlib.Core.Path.{_≡_, refl, sym, ap, _∙_, subst}
-use mathlib.Core.Bool.{Bool, true, false, cond, _&&_}
+use mathlib.Core.Bool.{true}
 use mathlib.Core.List.{List, [], _∷_, _++_, append-assoc}
 use mathlib.Core.Logic.{inl, inr}
 use Prim.Native.Nat.{ℕ, zero, suc, _+_, _*_, _^_, _<_}
 use native.Mathlib.Nat.{zero-mul, suc-mul, add-comm}
 use native.Mathlib.Omega.{arith}
-use borrow.Author.Tests.{eqb-true, eqb-false}
-use lib.Dec.{eqb, leb}
+use borrow.Author.Tests.{eqb-true}
+use lib.Dec.{eqb}
 use lib.ListN.{length, getD, take, drop}
 use lib.Seq.{take-at, drop-at, drop-drop}
 use Rattle.field.specs.Bytes.{All}
@@ -17,17 +17,17 @@ use Rattle.field.proofs.ByteLists.{all-at}
 use Rattle.field.proofs.Schedule.{step-lt, step-positive}
 use Rattle.field.proofs.Tests.{either}
 use Rattle.droplet.specs.declared.card.Card.{Card}
-use Rattle.droplet.specs.PoolCard.{weightCount, strandBases}
+use Rattle.droplet.specs.PoolCard.{strandBases}
 use Rattle.droplet.specs.Questions.{cardRefusal}
-use Rattle.strand.specs.declared.writer.WriteAnswer.{WriteAnswer}
 use Rattle.strand.specs.declared.writer.WriteAnswer.the-variants as writer
 use Rattle.strand.specs.Letters.{wordLetters}
 use Rattle.strand.specs.Screen.{screenPasses}
-use Rattle.strand.specs.Writer.{seedWord, strandLine, Written, written, writerRun, passing, passingFirst, strandLines, writerRefusal, runAnswer, runText}
+use Rattle.strand.specs.Writer.{seedWord, strandLine, Written, written, writerRun, passing, passingFirst, strandLines, writerRefusal, Wrote, wrote, refusal, writeAnswer, runAnswer, runText}
 use Rattle.strand.proofs.Spelling.{letters-length}
 use Rattle.strand.proofs.SeedWords.{word-length}
 use Rattle.strand.proofs.Runs.{run-facts}
 use Rattle.strand.proofs.Lines.{line-length}
+use Rattle.strand.proofs.WriterAnswers.{roomy, own}
 use Rattle.decoder.specs.Vault.{PrintedStrand}
 
 -- a seed whose strand is printed
@@ -51,15 +51,9 @@ scheduled zero seed h = tt
 scheduled (suc n) seed h = (h, scheduled n (seedAfter seed) (step-positive seed (h .0) (h .1), step-lt seed))
 
 -- how many strands an answer says were made
-abbrev madeBy : WriteAnswer → ℕ
-madeBy (writer.Written run) = run .made
-madeBy (writer.Refused n) = 0
-
--- 6: "Start not 0?"
-asked-start : (size start room : Bool) (n : ℕ) → _≡_ {A = ℕ} (cond size (cond start 6 (cond room n 7)) 5) 0 → start ≡ false
-asked-start true false room n e = refl
-asked-start true true room n e = absurd (let z : ⊥ = omega arith in z)
-asked-start false start room n e = absurd (let z : ⊥ = omega arith in z)
+abbrev madeBy : Wrote → ℕ
+madeBy (wrote stop made tried next) = made
+madeBy (refusal n) = 0
 
 module _ (c : Card) (ws file : List ℕ) where
   passing-printable : (seeds : List ℕ) → All IsSeed seeds → All (Printable c ws file) (passing c ws file seeds)
@@ -109,29 +103,26 @@ module _ (c : Card) (ws file : List ℕ) where
       }
 
   module _ (fine : cardRefusal c ws ≡ 0) where
-    start-positive : (start wanted buffer numbers : ℕ) → writerRefusal c ws file start wanted buffer numbers ≡ 0 → 0 < start
-    unfolding writerRefusal
+    start-positive : (start wanted buffer numbers : ℕ) → writerRefusal c ws (length file) start wanted buffer numbers ≡ 0 → 0 < start
     start-positive start wanted buffer numbers e =
-        let n = eqb-false start 0
-        (asked-start (eqb (length file) (c .f)) (eqb start 0) (leb wanted 1000000 && leb (wanted * (strandBases c + 1)) buffer)
-        (cond (leb (weightCount ws) numbers) 0 8) (rw fine at e)) in
+        let nonzero = roomy (length file) (sym (own c ws (length file) start wanted buffer numbers fine) ∙ e) .starts in
         omega arith
 
     pub printed-seed : (read : List ℕ) → PrintedStrand c ws file read → SeedOf c ws file read
     printed-seed read p =
-        let no = writerRefusal c ws file (p .start) (p .wanted) (length (p .out)) (length (p .list)) in
+        let no = writerRefusal c ws (length file) (p .start) (p .wanted) (length (p .out)) (length (p .list)) in
         let w = writerRun c ws file (p .start) (p .wanted) (p .budget) in
         elim (either (eqb no 0)) [
           | inl t ↦
-              let says : writer.Written (p .run) ≡ runAnswer w = rw t at (p .wrote .says) in
-              let prints : p .out′ ≡ runText w ++ drop (length (runText w)) (p .out) = rw t at (p .wrote .prints) in
+              let says : writeAnswer (writer.Written (p .run)) ≡ runAnswer w = rw t at (p .wrote .says) in
+              let prints : p .out′ ≡ runText w ++ drop (length (runText w)) (p .out) = rw t at (p .wrote .leaves .prints) in
               let positive = start-positive (p .start) (p .wanted) (length (p .out)) (length (p .list)) (eqb-true no 0 t) in
               subst (SeedOf c ws file)
               (sym (p .letters ∙ ap (λ (l : List ℕ). take (strandBases c) (drop (p .line * (strandBases c + 1)) l)) prints))
               (run-line (p .start) (p .wanted) (p .budget) (positive, p .fits) w refl (drop (length (runText w)) (p .out)) (p .line)
               (subst (λ n. p .line < n) (ap madeBy says) (p .made)))
           | inr t ↦
-              let says : writer.Written (p .run) ≡ writer.Refused no = rw t at (p .wrote .says) in
+              let says : writeAnswer (writer.Written (p .run)) ≡ refusal no = rw t at (p .wrote .says) in
               let apart : _≡_ {A = ℕ} 0 1 = cc in
               absurd (let z : ⊥ = omega arith in z)
         ]

@@ -3,11 +3,11 @@ use mathlib.Core.Path.{_≡_, refl, sym, ap, _∙_}
 use mathlib.Core.Bool.{Bool, false, not, _&&_}
 use mathlib.Core.List.{List, [], _∷_}
 use Prim.Native.Nat.{ℕ, _+_, _-_, _*_, _≤_, _<_}
-use native.Mathlib.Nat.{mul-le-mul-right}
+use native.Mathlib.Nat.{mul-le-mul-right, le-refl}
 use native.Mathlib.Omega.{arith}
-use lib.ListN.{length, take, drop, length-drop}
-use lib.Seq.{length-take-le, drop-drop}
-use Rattle.field.specs.Bytes.{All, fromBigEndian, padded}
+use lib.ListN.{length, take, drop}
+use lib.Seq.{drop-drop}
+use Rattle.field.specs.Bytes.{All, padded}
 use Rattle.field.proofs.ByteLists.{take-padded, padded-length}
 use Rattle.droplet.specs.declared.card.Plan.{Plan}
 use Rattle.droplet.specs.PoolCard.{weightCount}
@@ -17,11 +17,12 @@ use Rattle.droplet.proofs.Sets.{segments-length, segments-below}
 use Rattle.droplet.proofs.Payload.{payload-length}
 use Rattle.decoder.specs.declared.restorer.Unmarked.the-variants.{None, One, Several}
 use Rattle.decoder.specs.declared.restorer.Drawn.{Drawn}
-use Rattle.decoder.specs.Store.{recordFrom, sameBytes}
+use Rattle.decoder.specs.Store.{recordBytes, recordSeed, recordPayload, recordFrom, sameBytes}
 use Rattle.decoder.specs.Restorer.{Droplet, State, marked, missing, filled, filledBy, step, present, isNil, contradicts}
 use Rattle.decoder.specs.Loops.{dropletOf, unmarkedOf, AllBelow, Seen, Room, Filled}
 use Rattle.decoder.proofs.AllOf.{all-map}
 use Rattle.decoder.proofs.MarkCounts.{present-more}
+use Rattle.decoder.proofs.RecordBytes.{payload-size}
 use Rattle.decoder.proofs.MissingSegments.{missing-one}
 use Rattle.decoder.proofs.Unmarked.{unmarked-none, unmarked-one}
 
@@ -38,13 +39,13 @@ drop-more d n xs ys h e =
     let past : d + (n - d) ≡ n = omega arith in
     rw (← past, ← drop-drop (n - d) d xs, ← drop-drop (n - d) d ys, e)
 
-module _ (plan : Plan) (L : ℕ) (weights bytes file marks before after : List ℕ) (r : Drawn) (size : length bytes ≡ 4 + L)
-    (room : Room plan L weights file marks before) (seen : Seen weights (plan .segments) (fromBigEndian (take 4 bytes)) marks before after r) where
+module _ (plan : Plan) (L : ℕ) (weights bytes file marks before after : List ℕ) (r : Drawn) (size : length bytes ≡ recordBytes L)
+    (room : Room plan L weights file marks before) (seen : Seen weights (plan .segments) (recordSeed bytes) marks before after r) where
   abbrev K : ℕ
   K = plan .segments
 
   abbrev own : List ℕ
-  own = segmentsOf weights K (fromBigEndian (take 4 bytes))
+  own = segmentsOf weights K (recordSeed bytes)
 
   -- the record's droplet, and the state before its turn
   abbrev one : Droplet
@@ -54,7 +55,7 @@ module _ (plan : Plan) (L : ℕ) (weights bytes file marks before after : List �
   st = record { file = file; marks = marks }
 
   degree-most : r .degree ≤ weightCount weights
-  degree-most = rw (seen .degree) (degreeOf-most weights (fromBigEndian (take 4 bytes)) (room .drawable .positive))
+  degree-most = rw (seen .degree) (degreeOf-most weights (recordSeed bytes) (room .drawable .positive))
 
   pub degree-places : r .degree ≤ length before
   degree-places = omega (arith, degree-most, room .drawable .places)
@@ -64,16 +65,13 @@ module _ (plan : Plan) (L : ℕ) (weights bytes file marks before after : List �
 
   -- the payload as it is lent
   abbrev stored : List ℕ
-  stored = take (length bytes - 4) (drop 4 bytes)
-
-  stored-own : stored ≡ take L (drop 4 bytes)
-  stored-own = let e : length bytes - 4 ≡ L = omega arith in rw e
+  stored = recordPayload L bytes
 
   pub stored-size : length stored ≡ L
-  stored-size = length-take-le (length bytes - 4) (drop 4 bytes) (rw length-drop (omega arith)) ∙ omega arith
+  stored-size = payload-size L bytes (rw size (le-refl (recordBytes L)))
 
   own-below : All (λ s. s < K) own
-  own-below = segments-below weights K (fromBigEndian (take 4 bytes)) (room .drawable .positive) (room .drawable .degrees)
+  own-below = segments-below weights K (recordSeed bytes) (room .drawable .positive) (room .drawable .degrees)
 
   -- not just one segment is missing
   pub turn-none : ((s : ℕ) → r .unmarked ≡ One s → ⊥) → Filled K weights (step L one st) marks before file marks after 0
@@ -88,7 +86,7 @@ module _ (plan : Plan) (L : ℕ) (weights bytes file marks before after : List �
   module _ (few : r .unmarked ≡ Several → ⊥) where
     front-own : take (r .degree) after ≡ own
     front-own =
-        let n : length own ≡ r .degree = segments-length weights K (fromBigEndian (take 4 bytes)) ∙ sym (seen .degree) in
+        let n : length own ≡ r .degree = segments-length weights K (recordSeed bytes) ∙ sym (seen .degree) in
         rw (← n) (seen .looked .front few)
 
     front-below : AllBelow (length marks) (take (r .degree) after)
@@ -121,7 +119,7 @@ module _ (plan : Plan) (L : ℕ) (weights bytes file marks before after : List �
         → Filled K weights (step L one st) marks before file′ marks′ after 1
     unfolding step filledBy filled dropletOf recordFrom
     turn-one file′ marks′ e = record {
-      state = rw (lone-missing, ← (front-own lone-few), ← stored-own) e;
+      state = rw (lone-missing, ← (front-own lone-few)) e;
       count =
           ap (λ (t : State). present K (t .marks)) e ∙ present-more marks s K (lone-below .0) fill-mark (lone-below .1)
           ∙ omega arith;
@@ -134,7 +132,7 @@ module _ (plan : Plan) (L : ℕ) (weights bytes file marks before after : List �
   unfolding contradicts dropletOf recordFrom
   agrees-unless some = of (missing marks own) (seen .looked .found)
     where
-      of : (xs : List ℕ) → r .unmarked ≡ unmarkedOf xs → false ≡ (isNil xs && not (sameBytes (payload L file own) (take L (drop 4 bytes))))
+      of : (xs : List ℕ) → r .unmarked ≡ unmarkedOf xs → false ≡ (isNil xs && not (sameBytes (payload L file own) stored))
       of [] e = absurd (some (unfold unmarkedOf in e))
       of (x ∷ xs) e = refl
 
@@ -156,4 +154,4 @@ module _ (plan : Plan) (L : ℕ) (weights bytes file marks before after : List �
           = ap (λ (n : ℕ). take n (padded 64 xor)) (sym (payload-length L file own)) ∙ take-padded 64 xor in
           let whole : take L p ≡ xor = rw (made, front-own all-few) front in
           let none = unmarked-none (missing marks own) (sym all ∙ seen .looked .found) in
-          rw (e, stored-size, whole, none, stored-own)
+          rw (e, stored-size, whole, none)

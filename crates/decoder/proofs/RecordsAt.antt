@@ -5,15 +5,17 @@ use Prim.Native.Nat.{ℕ, suc, _+_, _-_, _*_, _≤_, _<_}
 use native.Mathlib.Nat.{mul-le-mul-right, zero-mul, sub-zero}
 use native.Mathlib.Omega.{arith}
 use lib.ListN.{length, take, drop, length-drop}
-use lib.Seq.{length-take-le, take-take, take-add, drop-at, drop-drop}
+use lib.Seq.{length-take-le, take-take, drop-drop}
 use Rattle.field.specs.Bytes.{fromBigEndian}
-use Rattle.decoder.specs.Store.{Record, recordFrom, records}
+use Rattle.decoder.specs.Store.{Record, recordBytes, recordPayload, recordFrom, records}
 use Rattle.decoder.specs.Restorer.{Droplet}
 use Rattle.decoder.specs.Loops.{recordAt, dropletOf, dropletsOf}
+use Rattle.decoder.proofs.BufferParts.{part-inside}
+use Rattle.decoder.proofs.RecordBytes.{parts-fit}
 
 -- the records from place i on, of the first `count`
 unfoldable pub recordsFrom : ℕ → ℕ → List ℕ → ℕ → List Record
-recordsFrom L count store i = records L (count - i) (drop (i * (4 + L)) store)
+recordsFrom L count store i = records L (count - i) (drop (i * recordBytes L) store)
 
 module _ (L count : ℕ) (store : List ℕ) where
   pub records-all : recordsFrom L count store 0 ≡ records L count store
@@ -24,31 +26,30 @@ module _ (L count : ℕ) (store : List ℕ) where
   unfolding recordsFrom records
   records-end i h = let e : count - i ≡ 0 = omega arith in rw e
 
-  module _ (i : ℕ) (h : i < count) (fits : count * (4 + L) ≤ length store) where
-    pub record-fits : i * (4 + L) + (4 + L) ≤ length store
-    record-fits = omega (arith, mul-le-mul-right (4 + L) h)
+  module _ (i : ℕ) (h : i < count) (fits : count * recordBytes L ≤ length store) where
+    pub record-fits : i * recordBytes L + recordBytes L ≤ length store
+    record-fits = omega (arith, mul-le-mul-right (recordBytes L) h)
 
-    pub record-length : length (recordAt L store i) ≡ 4 + L
+    pub record-length : length (recordAt L store i) ≡ recordBytes L
     unfolding recordAt
-    record-length = length-take-le (4 + L) (drop (i * (4 + L)) store) (rw length-drop (omega (arith, record-fits)))
+    record-length = length-take-le (recordBytes L) (drop (i * recordBytes L) store) (rw length-drop (omega (arith, record-fits)))
 
     -- a record reads no byte behind its own
-    record-own : recordFrom L (drop (i * (4 + L)) store) ≡ recordFrom L (recordAt L store i)
-    unfolding recordFrom recordAt
+    record-own : recordFrom L (drop (i * recordBytes L) store) ≡ recordFrom L (recordAt L store i)
+    unfolding recordFrom recordPayload recordAt
     record-own =
-        let from = drop (i * (4 + L)) store in
-        let seed = take-take 4 (4 + L) from (omega arith) in
-        let size : length (take 4 from) ≡ 4 = length-take-le 4 from (rw length-drop (omega (arith, record-fits))) in
-        let payload : take L (drop 4 (take (4 + L) from)) ≡ take L (drop 4 from)
-        = rw (take-add 4 L from, drop-at (take 4 from) (take L (drop 4 from)) 4 size) (take-take L L (drop 4 from) (omega arith)) in
+        let from = drop (i * recordBytes L) store in
+        let room : recordBytes L ≤ length from = rw length-drop (omega (arith, record-fits)) in
+        let seed = take-take 4 (recordBytes L) from (omega (arith, parts-fit L)) in
+        let payload = part-inside 4 L (recordBytes L) from (parts-fit L) room in
         λ z. record { seed = fromBigEndian (sym seed z); payload = sym payload z }
 
     pub records-next : recordsFrom L count store i ≡ recordFrom L (recordAt L store i) ∷ recordsFrom L count store (i + 1)
     unfolding recordsFrom records
     records-next =
         let e : count - i ≡ suc (count - (i + 1)) = omega arith in
-        let past : i * (4 + L) + (4 + L) ≡ (i + 1) * (4 + L) = omega arith in
-        rw (e, drop-drop (4 + L) (i * (4 + L)) store, past, record-own)
+        let past : i * recordBytes L + recordBytes L ≡ (i + 1) * recordBytes L = omega arith in
+        rw (e, drop-drop (recordBytes L) (i * recordBytes L) store, past, record-own)
 
 -- the droplets of these records
 unfoldable pub dropletsFrom : List ℕ → ℕ → ℕ → ℕ → List ℕ → ℕ → List Droplet
@@ -63,7 +64,7 @@ module _ (weights : List ℕ) (K L count : ℕ) (store : List ℕ) where
   unfolding dropletsFrom
   droplets-end i h = rw (records-end L count store i h)
 
-  pub droplets-next : (i : ℕ) → i < count → count * (4 + L) ≤ length store
+  pub droplets-next : (i : ℕ) → i < count → count * recordBytes L ≤ length store
       → dropletsFrom weights K L count store i
       ≡ dropletOf weights K (recordFrom L (recordAt L store i)) ∷ dropletsFrom weights K L count store (i + 1)
   unfolding dropletsFrom

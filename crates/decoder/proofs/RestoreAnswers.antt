@@ -15,9 +15,9 @@ use Rattle.droplet.proofs.Conjunctions.{and-true, said-yes}
 use Rattle.droplet.proofs.CardAnswers.{Passed, SaysNo}
 use Rattle.decoder.specs.declared.restorer.Sheet.{Sheet}
 use Rattle.decoder.specs.declared.restorer.RestoreAnswer.the-variants as answer
-use Rattle.decoder.specs.Store.{records, countFits}
-use Rattle.decoder.specs.Restorer.{State, droplets, hasSeed, peelAll, restoreRefusal, restore, RestorePromise}
-use Rattle.decoder.specs.Loops.{dropletOf, dropletsOf, Room, MadeSheet, laterRefusal}
+use Rattle.decoder.specs.Store.{recordBytes, records, countFits}
+use Rattle.decoder.specs.Restorer.{State, droplets, hasSeed, peelAll, roomRefusal, laterRefusal, restoreRefusal, restore, RestorePromise}
+use Rattle.decoder.specs.Loops.{dropletOf, dropletsOf, Room, MadeSheet}
 
 said-not : (b : Bool) (n others : ℕ) → cond b (suc n) others ≡ 0 → (b ≡ false) × (others ≡ 0)
 said-not true n others e = absurd (let z : ⊥ = omega arith in z)
@@ -25,14 +25,14 @@ said-not false n others e = (refl, e)
 
 -- the questions 14, 17, 18 and 8 say yes
 pub record Fits (K L D : ℕ) (store : List ℕ) (count file marks list : ℕ) : Type 0 where
-  pub records-fit : count * (4 + L) ≤ length store
+  pub records-fit : count * recordBytes L ≤ length store
   pub file-fits : K * L ≤ file
   pub marks-fit : K ≤ marks
   pub list-fits : D ≤ list
 
 pub later-fits : (K L D : ℕ) (store : List ℕ) (count file marks list : ℕ) → laterRefusal K L D store count file marks list ≡ 0
     → Fits K L D store count file marks list
-unfolding laterRefusal
+unfolding laterRefusal roomRefusal
 later-fits K L D store count file marks list e =
     let q14 = said-yes (countFits L store count) 13 _ e in
     let q17 = said-not (hasSeed 0 (records L count store)) 16 _ (q14 .1) in
@@ -82,7 +82,7 @@ module _ (c : Card) (weights store : List ℕ) (count : ℕ) (file marks list : 
       fits : Fits (plan .segments) (c .l) (plan .degrees) store count (length file) (length marks) (length list)
       fits = later-fits _ _ _ _ _ _ _ _ (sym fine)
 
-      pub records-fit : count * (4 + c .l) ≤ length store
+      pub records-fit : count * recordBytes (c .l) ≤ length store
       records-fit = fits .records-fit
 
       pub room : Room plan (c .l) weights file marks list

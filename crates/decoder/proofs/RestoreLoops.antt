@@ -10,7 +10,7 @@ use borrow.Author.Tests.{eq-eqb, ne-eqb}
 use lib.ListN.{length, drop}
 use Rattle.droplet.specs.declared.card.Plan.{Plan}
 use Rattle.droplet.specs.PoolCard.{weightCount}
-use Rattle.decoder.specs.Store.{recordFrom}
+use Rattle.decoder.specs.Store.{recordBytes, recordFrom}
 use Rattle.decoder.specs.Restorer.{Droplet, State, step, pass, present, peeled, peel, contradicts, contradictions}
 use Rattle.decoder.specs.Loops.{recordAt, dropletOf, dropletsOf, Room, Filled}
 use Rattle.decoder.proofs.MarkCounts.{present-most}
@@ -65,7 +65,7 @@ module _ (weights : List ℕ) (K L count : ℕ) (store file₀ marks₀ list₀ 
     pub few-filled : (n : ℕ) (marks′ : List ℕ) → present K marks′ ≡ present K marks + n → filled + n ≤ K
     few-filled n marks′ e = omega (arith, now .counted, present-most K marks′)
 
-    pub passing-turns : i < count → count * (4 + L) ≤ length store → (file′ marks′ list′ : List ℕ) (n : ℕ)
+    pub passing-turns : i < count → count * recordBytes L ≤ length store → (file′ marks′ list′ : List ℕ) (n : ℕ)
         → Filled K weights (step L (dropletOf weights K (recordFrom L (recordAt L store i))) (record { file = file; marks = marks })) marks list file′ marks′ list′ n
         → length file′ ≡ length file → length marks′ ≡ length marks → length list′ ≡ length list
         → Passing weights K L count store file₀ marks₀ list₀ file′ marks′ list′ (filled + n) (i + 1)
@@ -194,7 +194,7 @@ module _ (weights : List ℕ) (K L count : ℕ) (store : List ℕ) (st : State) 
     counted-next true d ds e = rw (sym e) (omega arith)
     counted-next false d ds e = rw (sym e) (omega arith)
 
-    pub counting-turns : i < count → count * (4 + L) ≤ length store → (list′ : List ℕ) (b : Bool) (m : ℕ)
+    pub counting-turns : i < count → count * recordBytes L ≤ length store → (list′ : List ℕ) (b : Bool) (m : ℕ)
         → b ≡ contradicts L st (dropletOf weights K (recordFrom L (recordAt L store i))) → m ≡ n + one b
         → drop (weightCount weights) list′ ≡ drop (weightCount weights) list → length list′ ≡ length list
         → Counting weights K L count store st list₀ list′ m (i + 1)

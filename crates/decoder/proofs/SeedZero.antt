@@ -4,20 +4,19 @@ use mathlib.Core.Bool.{true, false}
 use mathlib.Core.List.{List}
 use Prim.Native.Nat.{ℕ, _+_, _*_, _≤_, _<_}
 use borrow.Author.Tests.{eq-eqb, ne-eqb}
-use lib.ListN.{length, take}
-use Rattle.field.specs.Bytes.{fromBigEndian}
-use Rattle.decoder.specs.Store.{recordFrom}
+use lib.ListN.{length}
+use Rattle.decoder.specs.Store.{recordBytes, recordSeed, recordFrom}
 use Rattle.decoder.specs.Restorer.{hasSeed}
 use Rattle.decoder.specs.Loops.{recordAt}
 use Rattle.decoder.proofs.RecordsAt.{recordsFrom, records-next, records-end}
 
 module _ (L count : ℕ) (store : List ℕ) (s i : ℕ) where
-  module _ (h : i < count) (fits : count * (4 + L) ≤ length store) where
-    pub seed-here : fromBigEndian (take 4 (recordAt L store i)) ≡ s → hasSeed s (recordsFrom L count store i) ≡ true
+  module _ (h : i < count) (fits : count * recordBytes L ≤ length store) where
+    pub seed-here : recordSeed (recordAt L store i) ≡ s → hasSeed s (recordsFrom L count store i) ≡ true
     unfolding hasSeed recordFrom
     seed-here e = rw (records-next L count store i h fits, eq-eqb _ _ e)
 
-    pub seed-past : (fromBigEndian (take 4 (recordAt L store i)) ≡ s → ⊥)
+    pub seed-past : (recordSeed (recordAt L store i) ≡ s → ⊥)
         → hasSeed s (recordsFrom L count store i) ≡ hasSeed s (recordsFrom L count store (i + 1))
     unfolding hasSeed recordFrom
     seed-past n = rw (records-next L count store i h fits, ne-eqb _ _ n)

@@ -1,31 +1,30 @@
 -- A restore that is not refused is sound, over any store. Assumes nothing.
 use mathlib.Core.Path.{_≡_, refl}
-use mathlib.Core.Bool.{Bool, true, false, cond, _&&_}
 use mathlib.Core.List.{List}
 use mathlib.Core.Logic.{inl, inr}
-use Prim.Native.Nat.{ℕ, _+_, _*_, _<_}
+use Prim.Native.Nat.{ℕ, _+_, _<_}
 use native.Mathlib.Omega.{arith}
-use borrow.Author.Tests.{eqb-true, leb-true}
-use lib.Dec.{eqb, leb}
+use borrow.Author.Tests.{eqb-true}
+use lib.Dec.{eqb}
 use lib.ListN.{length}
 use Rattle.field.specs.Bytes.{All, AllBytes}
 use Rattle.field.proofs.Tests.{either}
 use Rattle.droplet.specs.declared.card.Card.{Card}
-use Rattle.droplet.specs.PoolCard.{segmentCount, weightCount}
+use Rattle.droplet.specs.PoolCard.{segmentCount}
 use Rattle.droplet.specs.Questions.{cardRefusal}
 use Rattle.droplet.specs.Droplet.{segmentsOf, Distinct}
 use Rattle.droplet.proofs.LegalCard.{legal}
 use Rattle.droplet.proofs.Sets.{segments-below, segments-distinct}
 use Rattle.decoder.specs.declared.restorer.Sheet.{Sheet}
 use Rattle.decoder.specs.declared.restorer.RestoreAnswer.the-variants as sheet
-use Rattle.decoder.specs.Store.{records, countFits}
-use Rattle.decoder.specs.Restorer.{Droplet, droplets, hasSeed, present, Peeled, peeled, peeledPasses, peeledState, peelAll, contradictions, restoreRefusal, Restored, restored, refusal, sheetOf, restore, RestorePromise}
+use Rattle.decoder.specs.Restorer.{Droplet, droplets, present, Peeled, peeled, peeledPasses, peeledState, peelAll, contradictions, restoreRefusal, Restored, restored, refusal, sheetOf, restore, RestorePromise}
 use Rattle.decoder.specs.Demand3.{Sound}
 use Rattle.decoder.proofs.PoolShapes.{Peelable, stateAfter}
 use Rattle.decoder.proofs.PeelingEnds.{peelAll-passes}
 use Rattle.decoder.proofs.MissingWhen.{missing-when}
 use Rattle.decoder.proofs.PresentRight.{present-right}
 use Rattle.decoder.proofs.WholeFile.{whole}
+use Rattle.decoder.proofs.RestoreAnswers.{later-fits}
 use Rattle.decoder.proofs.StoreDroplets.{droplets-are, droplets-bytes}
 
 -- ---- a peeling over droplets of the pool
@@ -66,15 +65,6 @@ pub record Ended (K L : ℕ) (ds : List Droplet) (file marks : List ℕ) (r : Sh
   pub fills : file′ ≡ stateAfter K L ds file marks .file
   pub sets : marks′ ≡ stateAfter K L ds file marks .marks
 
--- 14, 17, 18 and 8 in their order: none says no
-none-says-no : (fits zero file marks list : Bool) → _≡_ {A = ℕ} (cond fits (cond zero 17 (cond (file && marks) (cond list 0 8) 18)) 14) 0
-    → (fits ≡ true) × (file ≡ true) × (marks ≡ true)
-none-says-no true false true true list e = (refl, refl, refl)
-none-says-no false zero file marks list e = absurd (let z : ⊥ = omega arith in z)
-none-says-no true true file marks list e = absurd (let z : ⊥ = omega arith in z)
-none-says-no true false false marks list e = absurd (let z : ⊥ = omega arith in z)
-none-says-no true false true false list e = absurd (let z : ⊥ = omega arith in z)
-
 module _ (c : Card) (weights : List ℕ) (fine : cardRefusal c weights ≡ 0) where
   pub sets-right : (seed : ℕ) → All (λ s. s < segmentCount c) (segmentsOf weights (segmentCount c) seed)
       × Distinct (segmentsOf weights (segmentCount c) seed)
@@ -87,12 +77,11 @@ module _ (c : Card) (weights : List ℕ) (fine : cardRefusal c weights ≡ 0) wh
       → Peelable (segmentCount c) (c .l) (droplets c weights buffer count) file marks
   unfolding restoreRefusal
   peelable buffer count file marks listLength e =
-      let yes = none-says-no (countFits (c .l) buffer count) (hasSeed 0 (records (c .l) count buffer)) (leb (segmentCount c * c .l) (length file))
-      (leb (segmentCount c) (length marks)) (leb (weightCount weights) listLength) (rw fine at e) in
+      let fits = later-fits _ _ _ buffer count _ _ _ (rw fine at e) in
       record {
-        droplets = droplets-are c weights buffer count (λ seed. sets-right seed .0) (leb-true (count * (4 + c .l)) (length buffer) (yes .0));
-        fileFits = leb-true (segmentCount c * c .l) (length file) (yes .1);
-        marksFit = leb-true (segmentCount c) (length marks) (yes .2);
+        droplets = droplets-are c weights buffer count (λ seed. sets-right seed .0) (fits .records-fit);
+        fileFits = fits .file-fits;
+        marksFit = fits .marks-fit;
       }
 
   pub restore-ends : (buffer : List ℕ) (count : ℕ) (file marks list : List ℕ) (r : Sheet) (file′ marks′ list′ : List ℕ)

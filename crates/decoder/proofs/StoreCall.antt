@@ -14,17 +14,17 @@ use lib.Seq.{take-all, take-append-le}
 use Rattle.field.specs.Bytes.{All}
 use Rattle.field.proofs.Tests.{either}
 use Rattle.strand.specs.ReadCheck.{Reading, droplet, refused}
-use Rattle.decoder.specs.Store.{Record, Found, found, absent, findSeed, records, recordsText, sameBytes, Stored, accepted, repeat, refusal, Kept, keptAnswer, keptBuffer, appended, compared, storeReading, countFits}
+use Rattle.decoder.specs.Store.{Record, recordBytes, Found, found, absent, findSeed, records, recordsText, sameBytes, Stored, accepted, repeat, refusal, Kept, keptAnswer, keptBuffer, appended, compared, storeReading, countFits}
 use Rattle.decoder.specs.Restorer.{hasSeed}
 use Rattle.decoder.specs.Demand3.{Holds}
 use Rattle.decoder.proofs.AllOf.{all-front}
-use Rattle.decoder.proofs.RecordBytes.{IsRecord, texts-length, records-back, texts-more}
+use Rattle.decoder.proofs.RecordBytes.{IsRecord, parts-fit, texts-length, records-back, texts-more}
 use Rattle.decoder.proofs.SeedSearch.{absent-has, found-has, front-has, later-has}
 use Rattle.decoder.proofs.LegalRead.{Recordable}
 
 -- how many whole records fit a buffer
 abbrev pub room : ℕ → List ℕ → ℕ
-room L lent = length lent / (4 + L)
+room L lent = length lent / recordBytes L
 
 -- the count that the next call is handed
 abbrev pub countAfter : ℕ → Stored → ℕ
@@ -43,16 +43,16 @@ HoldsAfter L lent rs count k = Holds L lent (take (room L lent) rs) (keptBuffer 
 
 module _ (L : ℕ) (lent : List ℕ) where
   pub held-records : (rs : List Record) (buffer : List ℕ) (count : ℕ) → All (IsRecord L) rs → Holds L lent rs buffer count → records L count buffer ≡ rs
-  held-records rs buffer count good h = ap₂ (records L) (h .number) (h .bytes) ∙ records-back L rs (drop (length rs * (4 + L)) lent) good
+  held-records rs buffer count good h = ap₂ (records L) (h .number) (h .bytes) ∙ records-back L rs (drop (length rs * recordBytes L) lent) good
 
-  fits : (n : ℕ) → n ≤ room L lent → n * (4 + L) ≤ length lent
-  fits n = le-div-iff-mul-le {k = 4 + L} (omega arith) .0
+  fits : (n : ℕ) → n ≤ room L lent → n * recordBytes L ≤ length lent
+  fits n = le-div-iff-mul-le {k = recordBytes L} (omega (arith, parts-fit L)) .0
 
-  pub fitted : (n : ℕ) → n * (4 + L) ≤ length lent → n ≤ room L lent
-  fitted n = le-div-iff-mul-le {k = 4 + L} (omega arith) .1
+  pub fitted : (n : ℕ) → n * recordBytes L ≤ length lent → n ≤ room L lent
+  fitted n = le-div-iff-mul-le {k = recordBytes L} (omega (arith, parts-fit L)) .1
 
-  crowded : (n : ℕ) → length lent < suc n * (4 + L) → room L lent < suc n
-  crowded n = div-lt-iff-lt-mul {k = 4 + L} (omega arith) .1
+  crowded : (n : ℕ) → length lent < suc n * recordBytes L → room L lent < suc n
+  crowded n = div-lt-iff-lt-mul {k = recordBytes L} (omega (arith, parts-fit L)) .1
 
   module _ (rs : List Record) (good : All (IsRecord L) rs) (buffer : List ℕ) (count : ℕ) (h : Holds L lent (take (room L lent) rs) buffer count) where
     held-count : count ≡ min (room L lent) (length rs)
@@ -63,35 +63,35 @@ module _ (L : ℕ) (lent : List ℕ) where
 
     held-length : length buffer ≡ length lent
     held-length =
-        let texts : length (recordsText (take (room L lent) rs)) ≡ count * (4 + L)
+        let texts : length (recordsText (take (room L lent) rs)) ≡ count * recordBytes L
         = rw (h .number) (texts-length L (take (room L lent) rs) held-good) in
         rw (h .bytes, length-append, length-drop, ← h .number) (omega (arith, fits count (omega (arith, held-count))))
 
     pub held-fits : countFits L buffer count ≡ true
-    held-fits = le-leb (count * (4 + L)) (length buffer) (rw held-length (fits count (omega (arith, held-count))))
+    held-fits = le-leb (count * recordBytes L) (length buffer) (rw held-length (fits count (omega (arith, held-count))))
 
     appended-new : (r : Record) → IsRecord L r → HoldsAfter L lent (rs ++ (r ∷ [])) count (appended L buffer count r)
     unfolding appended
     appended-new r f =
-        elim (either (leb (suc count * (4 + L)) (length buffer))) [
+        elim (either (leb (suc count * recordBytes L) (length buffer))) [
           | inl t ↦
-              let space = fitted (suc count) (rw held-length at (leb-true (suc count * (4 + L)) (length buffer) t)) in
+              let space = fitted (suc count) (rw held-length at (leb-true (suc count * recordBytes L) (length buffer) t)) in
               let n : count ≡ length rs = omega (arith, held-count) in
               let all : take (room L lent) rs ≡ rs = take-all (room L lent) rs (omega arith) in
-              let bytes : buffer ≡ recordsText rs ++ drop (length rs * (4 + L)) lent = rw all at (h .bytes) in
+              let bytes : buffer ≡ recordsText rs ++ drop (length rs * recordBytes L) lent = rw all at (h .bytes) in
               rw (t, take-all (room L lent) (rs ++ (r ∷ [])) (rw length-append (omega arith)))
               (record { number = rw length-append (omega arith); bytes = rw (bytes, n) (texts-more L lent rs r good f) })
           | inr t ↦
-              let full = crowded count (rw held-length at (leb-false (suc count * (4 + L)) (length buffer) t)) in
+              let full = crowded count (rw held-length at (leb-false (suc count * recordBytes L) (length buffer) t)) in
               rw (t, take-append-le (room L lent) rs (r ∷ []) (omega (arith, held-count))) h
         ]
 
     appended-full : (r : Record) → room L lent < length rs → HoldsAfter L lent rs count (appended L buffer count r)
     unfolding appended
     appended-full r more =
-        elim (either (leb (suc count * (4 + L)) (length buffer))) [
+        elim (either (leb (suc count * recordBytes L) (length buffer))) [
           | inl t ↦
-              let space = fitted (suc count) (rw held-length at (leb-true (suc count * (4 + L)) (length buffer) t)) in
+              let space = fitted (suc count) (rw held-length at (leb-true (suc count * recordBytes L) (length buffer) t)) in
               absurd (let z : ⊥ = omega (arith, held-count) in z)
           | inr t ↦ rw t h
         ]

@@ -4,32 +4,32 @@ use mathlib.Core.List.{List}
 use Prim.Native.Nat.{ℕ, zero, suc, _+_, _*_, _≤_, _<_}
 use native.Mathlib.Omega.{arith}
 use lib.ListN.{length, drop, length-drop}
-use lib.Seq.{length-take-le}
 use Rattle.field.specs.Bytes.{All, IsByte, AllBytes}
 use Rattle.field.proofs.ByteLists.{all-take, all-drop}
 use Rattle.droplet.specs.declared.card.Card.{Card}
 use Rattle.droplet.specs.PoolCard.{segmentCount}
 use Rattle.droplet.specs.Droplet.{segmentsOf}
-use Rattle.decoder.specs.Store.{recordFrom, records}
+use Rattle.decoder.specs.Store.{recordBytes, recordPayload, recordFrom, records}
 use Rattle.decoder.specs.Restorer.{droplets}
 use Rattle.decoder.proofs.AllOf.{all-map, all-mapped}
 use Rattle.decoder.proofs.PoolShapes.{IsDroplet}
+use Rattle.decoder.proofs.RecordBytes.{payload-size}
 
 module _ (L : ℕ) where
-  pub records-size : (n : ℕ) (buffer : List ℕ) → n * (4 + L) ≤ length buffer → All (λ r. length (r .payload) ≡ L) (records L n buffer)
+  pub records-size : (n : ℕ) (buffer : List ℕ) → n * recordBytes L ≤ length buffer → All (λ r. length (r .payload) ≡ L) (records L n buffer)
   unfolding records recordFrom
   records-size zero buffer h = tt
   records-size (suc n) buffer h =
-      (length-take-le L (drop 4 buffer) (rw length-drop (omega arith)), records-size n (drop (4 + L) buffer) (rw length-drop (omega arith)))
+      (payload-size L buffer (omega arith), records-size n (drop (recordBytes L) buffer) (rw length-drop (omega arith)))
 
   pub records-bytes : (n : ℕ) (buffer : List ℕ) → AllBytes buffer → All (λ r. AllBytes (r .payload)) (records L n buffer)
-  unfolding records recordFrom
+  unfolding records recordFrom recordPayload
   records-bytes zero buffer h = tt
   records-bytes (suc n) buffer h =
-      (all-take IsByte L (drop 4 buffer) (all-drop IsByte 4 buffer h), records-bytes n (drop (4 + L) buffer) (all-drop IsByte (4 + L) buffer h))
+      (all-take IsByte L (drop 4 buffer) (all-drop IsByte 4 buffer h), records-bytes n (drop (recordBytes L) buffer) (all-drop IsByte (recordBytes L) buffer h))
 
 module _ (c : Card) (weights buffer : List ℕ) (count : ℕ) where
-  pub droplets-are : ((seed : ℕ) → All (λ s. s < segmentCount c) (segmentsOf weights (segmentCount c) seed)) → count * (4 + c .l) ≤ length buffer
+  pub droplets-are : ((seed : ℕ) → All (λ s. s < segmentCount c) (segmentsOf weights (segmentCount c) seed)) → count * recordBytes (c .l) ≤ length buffer
       → All (IsDroplet (segmentCount c) (c .l)) (droplets c weights buffer count)
   unfolding droplets
   droplets-are below h =

@@ -10,16 +10,22 @@ use Rattle.field.specs.Shift.{shiftUp}
 use Rattle.field.specs.Generator.{ofSeed, afterDraw, numberDrawn, xorshift, seedAfter}
 use Rattle.field.specs.CheckBytes.{double, timesPower, horner, syndromes, byRoot, multiple, remainderAfter, parity}
 use Rattle.droplet.specs.declared.card.Card.{Card}
-use Rattle.droplet.specs.PoolCard.{numberAt, weightAt, firstWeights, segmentCount, strandBytes}
-use Rattle.droplet.specs.Questions.{sizesRight, limitsRight, weightsRight, cardRefusal}
+use Rattle.droplet.specs.PoolCard.{numberAt, wellFormed, cardNumbers, cardWeights, weightCount, weightAt, firstWeights, segmentCount, strandBytes}
+use Rattle.droplet.specs.Questions.{sizesRight, limitsRight, weightsRight, cardRefusal, cardReadingRefusal, CardRead, cardReading}
 use Rattle.droplet.specs.Droplet.{degreeFrom, degree, member, pickFrom, degreeOf, segmentsOf, segment, payload}
 use Rattle.strand.specs.Letters.{letterOf, letterBits, allLetters, byteBases, wordBases, byteLetters, wordLetters, lettersByte, lettersWord}
 use Rattle.strand.specs.Screen.{longestFrom, longestRun, gcCount, withinLimits, screenPasses}
 use Rattle.strand.specs.ReadCheck.{Reading, droplet, refused, sumsZero, wordReading, lettersReading, readCheck, strandWord}
 use Rattle.strand.specs.Writer.{seedWord}
-use Rattle.decoder.specs.Store.{accepted, repeat, Kept, kept, recordFrom, records, sameBytes, findSeed, appended, compared, storeReading, storeRead}
+use Rattle.decoder.specs.Store.{accepted, repeat, Kept, kept, recordBytes, recordText, recordPayload, recordFrom, records, sameBytes, findSeed, appended, compared, storeReading, storeRead}
 use Rattle.decoder.specs.Store.Stored.{refusal}
-use Rattle.decoder.specs.Restorer.{droplets, marked, missing, known, filled, filledBy, step, pass, present, peel, cleared, peelAll, contradicts, contradictions, hasSeed, restoreRefusal, restored, RestoreEnd, restoreEnd, restore}
+use Rattle.decoder.specs.Restorer.{droplets, marked, missing, known, filled, filledBy, step, pass, present, peel, cleared, peelAll, contradicts, contradictions, hasSeed, roomRefusal, laterRefusal, restoreRefusal, restored, RestoreEnd, restoreEnd, restore}
+
+-- card P's bytes
+abbrev pub bytesP : List ℕ
+bytesP =
+    0x01 ∷ 0x00 ∷ 0x06 ∷ 0x00 ∷ 0x00 ∷ 0x00 ∷ 0x04 ∷ 0x01 ∷ 0x02 ∷ 0x02 ∷ 0x00 ∷ 0x05 ∷ 0x0F ∷ 0x00 ∷ 0xD6 ∷ 0x03 ∷ 0xE8 ∷ 0x03 ∷ 0x00 ∷ 0x08
+    ∷ 0x00 ∷ 0x00 ∷ 0x00 ∷ 0x01 ∷ 0x00 ∷ 0x00 ∷ 0x00 ∷ 0x01 ∷ []
 
 -- card P with another m and lo, D weights of one value (P's are 2 of value 1), and file Q
 abbrev pub cardP : ℕ → ℕ → Card
@@ -34,6 +40,7 @@ fileQ = 0x1B ∷ 0x27 ∷ 0x4E ∷ 0xE4 ∷ []
 
 -- what an example asks, with its answer
 pub data Row : Type 0 where
+  cards : List ℕ → Card → List ℕ → Row
   draws : ℕ → List ℕ → Row
   picks : ℕ → List ℕ → List ℕ → Row
   checks : List ℕ → List ℕ → Row
@@ -63,6 +70,7 @@ restoreAfter (r ∷ rs) buffer count =
     let after = storeRead (cardP 15 214) (weights 2 1) buffer count r in restoreAfter rs (held after) (counted count after)
 
 abbrev pub Holds : Row → Type 0
+Holds (cards bytes c ws) = (cardReading bytes ≡ CardRead.accepted c (weightCount ws)) × (cardWeights bytes ≡ ws)
 Holds (draws s ns) = drawnFrom (ofSeed s) ns ≡ ns
 Holds (picks seed set order) =
     (segmentsOf (weights 2 1) (segmentCount (cardP 15 214)) seed ≡ order) × All (λ s. member s order ≡ member s set) (0 ∷ 1 ∷ 2 ∷ 3 ∷ [])
@@ -90,7 +98,8 @@ letters3 =
 
 abbrev pub rows : List Row
 rows =
-    draws 1 (632806 ∷ 68359563 ∷ [])
+    cards bytesP (cardP 15 214) (weights 2 1)
+    ∷ draws 1 (632806 ∷ 68359563 ∷ [])
     ∷ picks 1 (3 ∷ []) (3 ∷ [])
     ∷ picks 2 (1 ∷ 2 ∷ []) (2 ∷ 1 ∷ [])
     ∷ picks 3 (1 ∷ []) (1 ∷ [])
@@ -111,22 +120,25 @@ rows =
     ∷ []
 
 pub examples : All Holds rows
-unfolding seedAfter seedWord segmentsOf degreeOf degree degreeFrom pickFrom member ofSeed afterDraw numberDrawn xorshift segment payload padded strandWord toBigEndian fromBigEndian parity remainderAfter xorLists multiple byRoot timesPower double shiftUp horner syndromes cardRefusal sizesRight limitsRight weightsRight segmentCount strandBytes firstWeights weightAt numberAt letterOf letterBits allLetters byteBases wordBases byteLetters wordLetters lettersByte lettersWord longestFrom longestRun gcCount withinLimits screenPasses sumsZero wordReading lettersReading readCheck recordFrom records sameBytes findSeed appended compared storeReading storeRead droplets marked missing known filled filledBy step pass present peel cleared peelAll contradicts contradictions hasSeed restoreRefusal restore
+unfolding cardReading cardReadingRefusal wellFormed cardNumbers seedAfter seedWord segmentsOf degreeOf degree degreeFrom pickFrom member ofSeed afterDraw numberDrawn xorshift segment payload padded strandWord toBigEndian fromBigEndian parity remainderAfter xorLists multiple byRoot timesPower double shiftUp horner syndromes cardRefusal sizesRight limitsRight weightsRight segmentCount strandBytes firstWeights weightAt numberAt letterOf letterBits allLetters byteBases wordBases byteLetters wordLetters lettersByte lettersWord longestFrom longestRun gcCount withinLimits screenPasses sumsZero wordReading lettersReading readCheck recordBytes recordText recordPayload recordFrom records sameBytes findSeed appended compared storeReading storeRead droplets marked missing known filled filledBy step pass present peel cleared peelAll contradicts contradictions hasSeed roomRefusal laterRefusal restoreRefusal restore
 examples = (
-  refl,
+  (refl, refl),
   (
-    (refl, (refl, (refl, (refl, (refl, tt))))),
+    refl,
     (
       (refl, (refl, (refl, (refl, (refl, tt))))),
       (
         (refl, (refl, (refl, (refl, (refl, tt))))),
         (
-          refl,
+          (refl, (refl, (refl, (refl, (refl, tt))))),
           (
             refl,
             (
-              (refl, refl, refl, refl),
-              (refl, (refl, (refl, (refl, (refl, (refl, (refl, (refl, (refl, (refl, tt)))))))))),
+              refl,
+              (
+                (refl, refl, refl, refl),
+                (refl, (refl, (refl, (refl, (refl, (refl, (refl, (refl, (refl, (refl, tt)))))))))),
+              ),
             ),
           ),
         ),

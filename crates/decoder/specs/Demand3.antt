@@ -15,7 +15,7 @@ use Rattle.decoder.specs.declared.store.StoreAnswer.{StoreAnswer}
 use Rattle.decoder.specs.declared.store.StoreAnswer.the-variants as reply
 use Rattle.decoder.specs.declared.restorer.Sheet.{Sheet}
 use Rattle.decoder.specs.declared.restorer.RestoreAnswer.the-variants as sheet
-use Rattle.decoder.specs.Store.{Record, recordsText, StorePromise}
+use Rattle.decoder.specs.Store.{Record, recordBytes, recordsText, StorePromise}
 use Rattle.decoder.specs.Restorer.{Droplet, droplets, marked, hasSeed, present, RestorePromise}
 
 -- ---- the store
@@ -36,13 +36,13 @@ firstOfSeed seen (r ∷ rs) = cond (hasSeed (r .seed) seen) (firstOfSeed seen rs
 
 -- "and of these only the first ones, as many as whole records fit the buffer"
 unfoldable pub storedRecords : Card → List ℕ → List ℕ → List (List ℕ) → List Record
-storedRecords c weights lent reads = take (length lent / (4 + c .l)) (firstOfSeed [] (legalReads c weights reads))
+storedRecords c weights lent reads = take (length lent / recordBytes (c .l)) (firstOfSeed [] (legalReads c weights reads))
 
 -- "The count is their number, the records have their seeds and payloads in that order, and the bytes past the records are
 -- as they were lent"
 pub record Holds (L : ℕ) (lent : List ℕ) (rs : List Record) (buffer : List ℕ) (count : ℕ) : Type 0 where
   pub number : count ≡ length rs
-  pub bytes : buffer ≡ recordsText rs ++ drop (length rs * (4 + L)) lent
+  pub bytes : buffer ≡ recordsText rs ++ drop (length rs * recordBytes L) lent
 
 -- one store call: the read offered, the answer, and the buffer after it
 pub record Call : Type 0 where

@@ -1,9 +1,9 @@
 -- What the contracts of the restorer's private functions cite. No sentence of document 01 stands here. Assumes nothing.
 use mathlib.Core.Path.{_≡_}
-use mathlib.Core.Bool.{cond, _&&_}
+use mathlib.Core.Bool.{cond}
 use mathlib.Core.List.{List, [], _∷_, map}
 use Prim.Native.Nat.{ℕ, _+_, _*_, _≤_, _<_}
-use lib.Dec.{eqb, leb}
+use lib.Dec.{eqb}
 use lib.ListN.{length, take, drop}
 use Rattle.field.specs.Bytes.{All}
 use Rattle.droplet.specs.declared.card.Plan.{Plan}
@@ -15,12 +15,12 @@ use Rattle.decoder.specs.declared.restorer.Unmarked.the-variants as unma
 use Rattle.decoder.specs.declared.restorer.Drawn.{Drawn}
 use Rattle.decoder.specs.declared.restorer.Peeling.{Peeling}
 use Rattle.decoder.specs.declared.restorer.Sheet.{Sheet}
-use Rattle.decoder.specs.Store.{Record, records, countFits}
-use Rattle.decoder.specs.Restorer.{Droplet, State, missing, present, Peeled, peeled, peeledState, hasSeed, restored, sheetOf}
+use Rattle.decoder.specs.Store.{Record, recordBytes, records}
+use Rattle.decoder.specs.Restorer.{Droplet, State, missing, present, Peeled, peeled, peeledState, restored, sheetOf}
 
 -- the bytes of record i of a store
 unfoldable pub recordAt : ℕ → List ℕ → ℕ → List ℕ
-recordAt L store i = take (4 + L) (drop (i * (4 + L)) store)
+recordAt L store i = take (recordBytes L) (drop (i * recordBytes L) store)
 
 -- the droplet of a record, and those of the first records of a store, by the numbers of a card
 unfoldable pub dropletOf : List ℕ → ℕ → Record → Droplet
@@ -84,10 +84,3 @@ pub record MadeSheet (K L : ℕ) (weights : List ℕ) (ds : List Droplet) (end :
   pub sheet : restored (r .present) (r .passes) (r .contradictions) ≡ sheetOf K L ds end
   pub state : record { file = file′; marks = marks′ } ≡ peeledState end
   pub rest : drop (weightCount weights) list′ ≡ drop (weightCount weights) list
-
--- the questions 14, 17, 18 and 8, by K, L and D
-unfoldable pub laterRefusal : ℕ → ℕ → ℕ → List ℕ → ℕ → ℕ → ℕ → ℕ → ℕ
-laterRefusal K L D store count fileLength marksLength listLength =
-    cond (countFits L store count)
-    (cond (hasSeed 0 (records L count store)) 17
-    (cond (leb (K * L) fileLength && leb K marksLength) (cond (leb D listLength) 0 8) 18)) 14

@@ -109,14 +109,22 @@ unfoldable pub hasSeed : ℕ → List Record → Bool
 hasSeed s [] = false
 hasSeed s (r ∷ rs) = cond (eqb (r .seed) s) true (hasSeed s rs)
 
--- 2 to 4, 14, 17, 18: "File at least K·L, marks at least K?", then 8
+-- 18: "File at least K·L, marks at least K?", then 8: "Number list at least D long?"
+unfoldable pub roomRefusal : ℕ → ℕ → ℕ → ℕ → ℕ → ℕ → ℕ
+roomRefusal K L D fileLength marksLength listLength =
+    cond (leb (K * L) fileLength && leb K marksLength) (cond (leb D listLength) 0 8) 18
+
+-- 14, 17, 18 and 8
+unfoldable pub laterRefusal : ℕ → ℕ → ℕ → List ℕ → ℕ → ℕ → ℕ → ℕ → ℕ
+laterRefusal K L D buffer count fileLength marksLength listLength =
+    cond (countFits L buffer count)
+    (cond (hasSeed 0 (records L count buffer)) 17 (roomRefusal K L D fileLength marksLength listLength)) 14
+
+-- 2 to 4, and then these
 unfoldable pub restoreRefusal : Card → List ℕ → List ℕ → ℕ → ℕ → ℕ → ℕ → ℕ
 restoreRefusal c weights buffer count fileLength marksLength listLength =
     cond (eqb (cardRefusal c weights) 0)
-    (cond (countFits (c .l) buffer count)
-    (cond (hasSeed 0 (records (c .l) count buffer)) 17
-    (cond (leb (segmentCount c * c .l) fileLength && leb (segmentCount c) marksLength) (cond (leb (weightCount weights) listLength) 0 8) 18)) 14)
-    (cardRefusal c weights)
+    (laterRefusal (segmentCount c) (c .l) (weightCount weights) buffer count fileLength marksLength listLength) (cardRefusal c weights)
 
 -- what a restore answers, by its cases: present, sweeps and contradictions, or the refusal number
 pub data Restored : Type 0 where

@@ -18,11 +18,22 @@ pub record Record : Type 0 where
   pub seed : ℕ
   pub payload : List ℕ
 
-abbrev pub recordText : Record → List ℕ
+-- its width in bytes, and its bytes
+unfoldable pub recordBytes : ℕ → ℕ
+recordBytes L = 4 + L
+
+unfoldable pub recordText : Record → List ℕ
 recordText r = toBigEndian (r .seed) ++ r .payload
 
+-- the parts of a record's bytes, wherever it ends
+abbrev pub recordSeed : List ℕ → ℕ
+recordSeed bytes = fromBigEndian (take 4 bytes)
+
+unfoldable pub recordPayload : ℕ → List ℕ → List ℕ
+recordPayload L bytes = take L (drop 4 bytes)
+
 unfoldable pub recordFrom : ℕ → List ℕ → Record
-recordFrom L bytes = record { seed = fromBigEndian (take 4 bytes); payload = take L (drop 4 bytes) }
+recordFrom L bytes = record { seed = recordSeed bytes; payload = recordPayload L bytes }
 
 -- the bytes of records one after the other, and the first n records of a buffer
 unfoldable pub recordsText : List Record → List ℕ
@@ -31,7 +42,7 @@ recordsText (r ∷ rs) = recordText r ++ recordsText rs
 
 unfoldable pub records : ℕ → ℕ → List ℕ → List Record
 records L zero buffer = []
-records L (suc n) buffer = recordFrom L buffer ∷ records L n (drop (4 + L) buffer)
+records L (suc n) buffer = recordFrom L buffer ∷ records L n (drop (recordBytes L) buffer)
 
 unfoldable pub sameBytes : List ℕ → List ℕ → Bool
 sameBytes [] [] = true
@@ -72,8 +83,8 @@ keptBuffer (kept a b) = b
 -- "None there: the record is appended (accepted)"; 16: "If the seed is new, space for a record?"
 unfoldable pub appended : ℕ → List ℕ → ℕ → Record → Kept
 appended L buffer count r =
-    cond (leb (suc count * (4 + L)) (length buffer))
-    (kept (accepted (suc count)) (take (count * (4 + L)) buffer ++ (recordText r ++ drop (suc count * (4 + L)) buffer)))
+    cond (leb (suc count * recordBytes L) (length buffer))
+    (kept (accepted (suc count)) (take (count * recordBytes L) buffer ++ (recordText r ++ drop (suc count * recordBytes L) buffer)))
     (kept (refusal 16) buffer)
 
 -- "Same payload: the answer is repeat"; 15: "The first record of this seed, if any, has this payload?"
@@ -89,7 +100,7 @@ storeReading L buffer count (droplet s p) =
 
 -- 14: "count times (4+L) within the shelf?"
 abbrev pub countFits : ℕ → List ℕ → ℕ → Bool
-countFits L buffer count = leb (count * (4 + L)) (length buffer)
+countFits L buffer count = leb (count * recordBytes L) (length buffer)
 
 -- the store call: 2 to 4, 14, 9 to 13, 15, 16
 unfoldable pub storeRead : Card → List ℕ → List ℕ → ℕ → List ℕ → Kept

@@ -19,7 +19,7 @@ use Rattle.strand.specs.Writer.{WriterPromise}
 use Rattle.decoder.specs.declared.store.StoreAnswer.the-variants as reply
 use Rattle.decoder.specs.declared.restorer.Sheet.{Sheet}
 use Rattle.decoder.specs.declared.restorer.RestoreAnswer.the-variants as sheet
-use Rattle.decoder.specs.Store.{Record}
+use Rattle.decoder.specs.Store.{Record, recordBytes}
 use Rattle.decoder.specs.Restorer.{Droplet, droplets, marked, present, RestorePromise}
 use Rattle.decoder.specs.Demand3.{legalReads, firstOfSeed, Call, readsOf, Chained, lastBuffer, lastCount, GivesAll}
 
@@ -56,7 +56,7 @@ module _ (c : Card) (weights : List ℕ) where
 
   -- the buffer has room for a record of each seed that the legal reads have
   abbrev pub RoomForAll : List ℕ → List Call → Type 0
-  RoomForAll lent calls = length (firstOfSeed [] (legalOf calls)) * (4 + c .l) ≤ length lent
+  RoomForAll lent calls = length (firstOfSeed [] (legalOf calls)) * recordBytes (c .l) ≤ length lent
 
   -- ---- the premises: what the writer printed, what was stored, what was restored
 

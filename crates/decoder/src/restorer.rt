@@ -2,13 +2,16 @@ ghost use mathlib.Core.Path.{_≡_};
 ghost use mathlib.Core.List.{[]};
 ghost use Prim.Native.Nat.{suc, _+_, _-_, _*_, _≤_, _<_};
 ghost use lib.ListN.{length, take, drop, replicate};
-ghost use Rattle.field.specs.Bytes.{fromBigEndian, xorLists, padded};
+ghost use Rattle.field.specs.Bytes.{xorLists, padded};
 ghost use Rattle.droplet.specs.PoolCard.{weightCount};
 ghost use Rattle.droplet.specs.Droplet.{pickFrom, payload};
 ghost use Rattle.droplet.specs.Loops.{Drawable, Marked};
-ghost use Rattle.decoder.specs.Store.{recordFrom, records};
-ghost use Rattle.decoder.specs.Restorer.{known, filled, step, pass, present, peel, peelAll, contradicts, contradictions, hasSeed, RestorePromise};
-ghost use Rattle.decoder.specs.Loops.{recordAt, dropletOf, dropletsOf, lookedAt, AllBelow, Looked, Seen, Room, Filled, Ended, MadeSheet, laterRefusal};
+ghost use Rattle.decoder.specs.Store.{recordBytes, recordSeed, recordFrom, records};
+ghost use Rattle.decoder.specs.Restorer.{known, filled, step, pass, present, peel, peelAll, contradicts, contradictions, hasSeed, roomRefusal, laterRefusal, RestorePromise};
+ghost use Rattle.decoder.specs.Loops.{dropletOf, dropletsOf, lookedAt, AllBelow, Looked, Seen, Room, Filled, Ended, MadeSheet};
+use crate::records::payload_in;
+use crate::records::record_at;
+use crate::store::count_fits;
 use crate::store::starts_with;
 use droplet::card::Card;
 use droplet::card::Plan;
@@ -21,8 +24,8 @@ use droplet::droplet::payload_of;
 use droplet::droplet::xor_into;
 use droplet::droplet::xor_segment;
 use field::generator::Draw;
-use strand::records::copy;
-use strand::records::seed_of;
+use strand::droplet_bytes::copy;
+use strand::droplet_bytes::seed_of;
 
 // What a restore found: segments present, passes over the records, and records that contradict the segments.
 pub struct Sheet {
@@ -55,20 +58,9 @@ pub struct Peeling {
     pub passes: u32,
 }
 
-// Record `i` of the store: seed and payload.
-fn record_at(store: &[u8], l: usize, i: usize) -> &[u8]
-    requires { ⌜ (l ≤ 64) × (i * (4 + l) + (4 + l) ≤ length (now store)) ⌝ }
-    ensures { λ r. ⌜ now r ≡ recordAt l (now (store .entry)) i ⌝ }
-{
-    let width = 4 + l;
-    let a = i * width;
-    let e = a + width;
-    &store[a..e]
-}
-
 // Question 17: whether one of the first `count` records has seed 0.
 fn has_seed_zero(store: &[u8], l: usize, count: usize) -> bool
-    requires { ⌜ (l ≤ 64) × (count * (4 + l) ≤ length (now store)) ⌝ }
+    requires { ⌜ (l ≤ 64) × (count * recordBytes l ≤ length (now store)) ⌝ }
     ensures { λ r. ⌜ r ≡ hasSeed 0 (records l count (now (store .entry))) ⌝ }
 {
     let mut i = 0;
@@ -159,7 +151,7 @@ fn draw_set(state: Draw, k: u32, d: usize, marks: &[u8], list: &mut [u32]) -> Un
 // The set of a record, and which of its segments are unmarked.
 fn draw_record(bytes: &[u8], plan: Plan, weights: &[u8], marks: &[u8], list: &mut [u32]) -> Drawn
     requires { ⌜ (4 ≤ length (now bytes)) × Drawable (now weights) (plan .segments) (plan .sum) (now list) × (plan .segments ≤ length (now marks)) ⌝ }
-    ensures { λ r. ⌜ Seen (now (weights .entry)) (plan .segments) (fromBigEndian (take 4 (now (bytes .entry)))) (now (marks .entry)) (now (list .entry)) (now (list .exit)) r ⌝ }
+    ensures { λ r. ⌜ Seen (now (weights .entry)) (plan .segments) (recordSeed (now (bytes .entry))) (now (marks .entry)) (now (list .entry)) (now (list .exit)) r ⌝ }
 {
     let first = Draw::of_seed(seed_of(bytes)).next();
     let degree = degree_for(weights, first.number() % plan.sum);
@@ -209,7 +201,7 @@ fn step_record(
     marks: &mut [u8],
     list: &mut [u32],
 ) -> u32
-    requires { ⌜ (length (now bytes) ≡ 4 + l) × Room plan l (now weights) (now file) (now marks) (now list) ⌝ }
+    requires { ⌜ (length (now bytes) ≡ recordBytes l) × Room plan l (now weights) (now file) (now marks) (now list) ⌝ }
     ensures { λ r. ⌜ Filled (plan .segments) (now (weights .entry))
         (step l (dropletOf (now (weights .entry)) (plan .segments) (recordFrom l (now (bytes .entry)))) (record { file = now (file .entry); marks = now (marks .entry) }))
         (now (marks .entry)) (now (list .entry)) (now (file .exit)) (now (marks .exit)) (now (list .exit)) r ⌝ }
@@ -220,7 +212,7 @@ fn step_record(
     let Unmarked::One(s) = unmarked else {
         return 0;
     };
-    fill(s, &bytes[4..], l, &list[..d], file, marks);
+    fill(s, payload_in(bytes, l), l, &list[..d], file, marks);
     1
 }
 
@@ -235,7 +227,7 @@ fn pass(
     marks: &mut [u8],
     list: &mut [u32],
 ) -> u32
-    requires { ⌜ (count * (4 + l) ≤ length (now store)) × Room plan l (now weights) (now file) (now marks) (now list) ⌝ }
+    requires { ⌜ (count * recordBytes l ≤ length (now store)) × Room plan l (now weights) (now file) (now marks) (now list) ⌝ }
     ensures { λ r. ⌜ Filled (plan .segments) (now (weights .entry))
         (pass l (dropletsOf (now (weights .entry)) (plan .segments) l count (now (store .entry))) (record { file = now (file .entry); marks = now (marks .entry) }))
         (now (marks .entry)) (now (list .entry)) (now (file .exit)) (now (marks .exit)) (now (list .exit)) r ⌝ }
@@ -260,7 +252,7 @@ fn peel(
     marks: &mut [u8],
     list: &mut [u32],
 ) -> Peeling
-    requires { ⌜ (count * (4 + l) ≤ length (now store)) × Room plan l (now weights) (now file) (now marks) (now list) × (present (plan .segments) (now marks) ≡ 0) ⌝ }
+    requires { ⌜ (count * recordBytes l ≤ length (now store)) × Room plan l (now weights) (now file) (now marks) (now list) × (present (plan .segments) (now marks) ≡ 0) ⌝ }
     ensures { λ r. ⌜ Ended (plan .segments) (now (weights .entry))
         (peel (suc (plan .segments)) (plan .segments) l (dropletsOf (now (weights .entry)) (plan .segments) l count (now (store .entry))) 0 (record { file = now (file .entry); marks = now (marks .entry) }))
         (now (list .entry)) (now (file .exit)) (now (marks .exit)) (now (list .exit)) r ⌝ }
@@ -287,7 +279,7 @@ fn contradicts(
     marks: &[u8],
     list: &mut [u32],
 ) -> bool
-    requires { ⌜ (length (now bytes) ≡ 4 + l) × Room plan l (now weights) (now file) (now marks) (now list) ⌝ }
+    requires { ⌜ (length (now bytes) ≡ recordBytes l) × Room plan l (now weights) (now file) (now marks) (now list) ⌝ }
     ensures { λ r. ⌜ (r ≡ contradicts l (record { file = now (file .entry); marks = now (marks .entry) }) (dropletOf (now (weights .entry)) (plan .segments) (recordFrom l (now (bytes .entry)))))
         × (drop (weightCount (now (weights .entry))) (now (list .exit)) ≡ drop (weightCount (now (weights .entry))) (now (list .entry))) ⌝ }
 {
@@ -298,7 +290,7 @@ fn contradicts(
         return false;
     };
     let p = payload_of(file, l, &list[..d]);
-    if starts_with(&p, &bytes[4..]) {
+    if starts_with(&p, payload_in(bytes, l)) {
         return false;
     }
     true
@@ -314,7 +306,7 @@ fn count_contradictions(
     marks: &[u8],
     list: &mut [u32],
 ) -> usize
-    requires { ⌜ (count * (4 + l) ≤ length (now store)) × Room plan l (now weights) (now file) (now marks) (now list) ⌝ }
+    requires { ⌜ (count * recordBytes l ≤ length (now store)) × Room plan l (now weights) (now file) (now marks) (now list) ⌝ }
     ensures { λ r. ⌜ (r ≡ contradictions l (dropletsOf (now (weights .entry)) (plan .segments) l count (now (store .entry))) (record { file = now (file .entry); marks = now (marks .entry) }))
         × (drop (weightCount (now (weights .entry))) (now (list .exit)) ≡ drop (weightCount (now (weights .entry))) (now (list .entry))) ⌝ }
 {
@@ -340,7 +332,7 @@ fn make_sheet(
     marks: &mut [u8],
     list: &mut [u32],
 ) -> Sheet
-    requires { ⌜ (count * (4 + l) ≤ length (now store)) × Room plan l (now weights) (now file) (now marks) (now list) ⌝ }
+    requires { ⌜ (count * recordBytes l ≤ length (now store)) × Room plan l (now weights) (now file) (now marks) (now list) ⌝ }
     ensures { λ r. ⌜ MadeSheet (plan .segments) l (now (weights .entry)) (dropletsOf (now (weights .entry)) (plan .segments) l count (now (store .entry)))
         (peelAll (plan .segments) l (dropletsOf (now (weights .entry)) (plan .segments) l count (now (store .entry))) (now (file .entry)) (now (marks .entry)))
         (now (list .entry)) (now (file .exit)) (now (marks .exit)) (now (list .exit)) r ⌝ }
@@ -358,36 +350,44 @@ fn make_sheet(
     }
 }
 
+// The questions 18 and 8, of the lengths of file, marks and number list: the number of the first that says no, or 0.
+fn room_refusal(plan: Plan, l: usize, file_len: usize, marks_len: usize, list_len: usize) -> u8
+    requires { ⌜ (l ≤ 64) × (plan .segments ≤ 131072) ⌝ }
+    ensures { λ r. ⌜ r ≡ roomRefusal (plan .segments) l (plan .degrees) «file_len» «marks_len» «list_len» ⌝ }
+{
+    let k = plan.segments as usize;
+    if file_len < k * l {
+        return 18;
+    }
+    if marks_len < k {
+        return 18;
+    }
+    if list_len < plan.degrees as usize {
+        return 8;
+    }
+    0
+}
+
 // The questions 14, 17, 18 and 8: the number of the first that says no, or 0.
 fn later_refusal(
     plan: Plan,
     l: usize,
     store: &[u8],
     count: usize,
-    file: usize,
-    marks: usize,
-    list: usize,
+    file_len: usize,
+    marks_len: usize,
+    list_len: usize,
 ) -> u8
     requires { ⌜ (l ≤ 64) × (plan .segments ≤ 131072) ⌝ }
-    ensures { λ r. ⌜ r ≡ laterRefusal (plan .segments) l (plan .degrees) (now (store .entry)) count file marks list ⌝ }
+    ensures { λ r. ⌜ r ≡ laterRefusal (plan .segments) l (plan .degrees) (now (store .entry)) count «file_len» «marks_len» «list_len» ⌝ }
 {
-    if store.len() / (4 + l) < count {
-        return 14;
+    if count_fits(store, l, count) {
+        if has_seed_zero(store, l, count) {
+            return 17;
+        }
+        return room_refusal(plan, l, file_len, marks_len, list_len);
     }
-    if has_seed_zero(store, l, count) {
-        return 17;
-    }
-    let k = plan.segments as usize;
-    if file < k * l {
-        return 18;
-    }
-    if marks < k {
-        return 18;
-    }
-    if list < plan.degrees as usize {
-        return 8;
-    }
-    0
+    14
 }
 
 // Fills what the records of a store give of a file. The number list is scratch memory.

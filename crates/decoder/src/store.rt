@@ -1,16 +1,19 @@
 ghost use mathlib.Core.Path.{_≡_};
 ghost use Prim.Native.Nat.{_≤_};
 ghost use lib.ListN.{length, take};
-ghost use Rattle.droplet.specs.Questions.{cardRefusal};
-ghost use Rattle.strand.specs.ReadCheck.{droplet, readCheck};
+ghost use Rattle.strand.specs.ReadCheck.{droplet, lettersReading};
+ghost use Rattle.strand.specs.Loops.{InRange};
 ghost use Rattle.decoder.specs.Store.{sameBytes, countFits, appended, storeReading, StorePromise};
 ghost use Rattle.decoder.specs.StoreLoops.{Within, Sought, Keeps, refusalNumber};
+use crate::records::payload_in;
+use crate::records::put_record;
+use crate::records::record_bytes;
 use droplet::card;
 use droplet::card::Card;
 use droplet::card::PlanAnswer;
+use strand::droplet_bytes::seed_of;
 use strand::read_check;
 use strand::read_check::ReadOutcome;
-use strand::records;
 
 // What a store call answers: the count after it, or the number of the question that refused the read.
 pub enum StoreAnswer {
@@ -45,7 +48,7 @@ pub fn count_fits(store: &[u8], l: usize, count: usize) -> bool
     requires { ⌜ l ≤ 64 ⌝ }
     ensures { λ r. ⌜ r ≡ countFits l (now (store .entry)) count ⌝ }
 {
-    count <= store.len() / (4 + l)
+    count <= store.len() / record_bytes(l)
 }
 
 // The first record of a seed. This is the longest loop of a store call: it looks at the seeds alone, two records a turn, and keeps
@@ -54,22 +57,22 @@ fn find_seed(store: &[u8], l: usize, count: usize, seed: u32) -> Place
     requires { ⌜ Within l count (now store) ⌝ }
     ensures { λ r. ⌜ Sought l count (now (store .entry)) seed r ⌝ }
 {
-    let width = 4 + l;
+    let width = record_bytes(l);
     let mut left = count;
     let mut at = 0;
     while 1 < left {
-        if records::seed_of(&store[at..]) == seed {
+        if seed_of(&store[at..]) == seed {
             return Place::At(at);
         }
         let next = at + width;
-        if records::seed_of(&store[next..]) == seed {
+        if seed_of(&store[next..]) == seed {
             return Place::At(next);
         }
         at = next + width;
         left -= 2;
     }
     if left == 1 {
-        if records::seed_of(&store[at..]) == seed {
+        if seed_of(&store[at..]) == seed {
             return Place::At(at);
         }
     }
@@ -81,13 +84,13 @@ fn append(store: &mut [u8], count: usize, seed: u32, payload: &[u8]) -> StoreAns
     requires { ⌜ Within (length (now payload)) count (now store) ⌝ }
     ensures { λ r. ⌜ Keeps (appended (length (now (payload .entry))) (now (store .entry)) count (record { seed = seed; payload = now (payload .entry) })) r (now (store .exit)) ⌝ }
 {
-    let width = 4 + payload.len();
+    let width = record_bytes(payload.len());
     let at = count * width;
     if store.len() - at < width {
         return StoreAnswer::Refused(16);
     }
     let end = at + width;
-    records::put_record(seed, payload, &mut store[at..end]);
+    put_record(seed, payload, &mut store[at..end]);
     StoreAnswer::Accepted(count + 1)
 }
 
@@ -99,8 +102,7 @@ fn store_droplet(store: &mut [u8], count: usize, seed: u32, payload: &[u8]) -> S
     let Place::At(at) = find_seed(store, payload.len(), count, seed) else {
         return append(store, count, seed, payload);
     };
-    let from = at + 4;
-    if starts_with(&store[from..], payload) {
+    if starts_with(payload_in(&store[at..], payload.len()), payload) {
         return StoreAnswer::Repeat(count);
     }
     StoreAnswer::Refused(15)
@@ -117,10 +119,10 @@ fn refusal_of(outcome: ReadOutcome) -> u8
 }
 
 // The questions 9 to 13, 15 and 16: the droplet is taken out of the read check's answer, or its refusal is handed on. The card's
-// own questions have been asked, so the weights are not summed again; they are lent for the contract alone.
-fn offer(card: Card, weights: &[u8], store: &mut [u8], count: usize, read: &[u8]) -> StoreAnswer
-    requires { ⌜ Within (card .l) count (now store) × (cardRefusal card (now weights) ≡ 0) ⌝ }
-    ensures { λ r. ⌜ Keeps (storeReading (card .l) (now (store .entry)) count (readCheck card (now (weights .entry)) (now (read .entry)))) r (now (store .exit)) ⌝ }
+// own questions have been asked.
+fn offer(card: Card, store: &mut [u8], count: usize, read: &[u8]) -> StoreAnswer
+    requires { ⌜ Within (card .l) count (now store) × InRange card ⌝ }
+    ensures { λ r. ⌜ Keeps (storeReading (card .l) (now (store .entry)) count (lettersReading card (now (read .entry)))) r (now (store .exit)) ⌝ }
 {
     let answer = read_check::check_strand(card, read);
     let outcome = answer.outcome;
@@ -147,7 +149,7 @@ pub fn store_read(
         return StoreAnswer::Refused(n);
     }
     if count_fits(store, card.l as usize, count) {
-        return offer(card, weights, store, count, read);
+        return offer(card, store, count, read);
     }
     StoreAnswer::Refused(14)
 }

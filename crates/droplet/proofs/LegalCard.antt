@@ -11,7 +11,7 @@ use lib.ListN.{length}
 use borrow.Author.Tests.{leb-true, eqb-true}
 use Rattle.field.specs.CheckBytes.{CheckCount}
 use Rattle.droplet.specs.declared.card.Card.{Card}
-use Rattle.droplet.specs.PoolCard.{weightCount, weightSum, segmentCount, strandBytes, recordBytes}
+use Rattle.droplet.specs.PoolCard.{weightCount, weightSum, segmentCount, strandBytes}
 use Rattle.droplet.specs.Questions.{within, sizesRight, limitsRight, weightsRight, cardRefusal}
 use Rattle.droplet.proofs.Conjunctions.{and-true, within-true, said-yes}
 
@@ -29,8 +29,6 @@ pub record Sizes (c : Card) : Type 0 where
   pub file-fills : segmentCount c * c .l < c .f + c .l
   pub strand-least : 7 ≤ strandBytes c
   pub strand-most : strandBytes c ≤ 72
-  pub record-least : 5 ≤ recordBytes c
-  pub record-most : recordBytes c ≤ 68
 
 -- the test of R
 abbrev pub checksRight : ℕ → Bool
@@ -74,7 +72,7 @@ module _ (c : Card) where
     segments-least = le-div-iff-mul-le {k = c .l} {x = 1} {y = c .f + (c .l - 1)} (omega arith) .1 (omega arith)
 
   pub sizes-true : sizesRight c ≡ true → Sizes c
-  unfolding sizesRight strandBytes recordBytes
+  unfolding sizesRight strandBytes
   sizes-true e =
       let last = and-true (lengthsRight && checksRight (c .r)) (leb (segmentCount c) 131072) e in
       let first = and-true lengthsRight (checksRight (c .r)) (last .0) in
@@ -93,8 +91,6 @@ module _ (c : Card) where
         file-fills = file-fills (lengths .0) (lengths .2);
         strand-least = omega arith;
         strand-most = omega arith;
-        record-least = omega arith;
-        record-most = omega arith;
       }
 
 -- ---- question 3

@@ -61,12 +61,9 @@ weightSum weights = firstWeights weights (weightCount weights)
 unfoldable pub segmentCount : Card → ℕ
 segmentCount c = (c .f + (c .l - 1)) / c .l
 
--- the bytes of a strand (seed, payload and check bytes) and of a record (seed and payload)
+-- the bytes of a strand: seed, payload and check bytes
 unfoldable pub strandBytes : Card → ℕ
 strandBytes c = 4 + c .l + c .r
-
-unfoldable pub recordBytes : Card → ℕ
-recordBytes c = 4 + c .l
 
 -- "four bases are one byte"
 unfoldable pub basesOf : Bytes → Bases

@@ -3,7 +3,7 @@ ghost use mathlib.Core.Bool.{cond, _||_};
 ghost use Prim.Native.Nat.{_+_, _*_, _≤_};
 ghost use lib.Dec.{eqb};
 ghost use lib.ListN.{length};
-ghost use Rattle.droplet.specs.PoolCard.{numberAt, fieldAt, wellFormed, cardNumbers, weightSum, segmentCount, strandBytes, recordBytes, basesOf, bytesOf};
+ghost use Rattle.droplet.specs.PoolCard.{numberAt, fieldAt, wellFormed, cardNumbers, weightSum, segmentCount, strandBytes, basesOf, bytesOf};
 ghost use Rattle.droplet.specs.Questions.{within, sizesRight, limitsRight, weightsRight, planAnswer, planOf, cardAnswer, cardReading};
 use crate::weights;
 
@@ -68,13 +68,6 @@ pub fn strand_bytes(card: Card) -> Bytes
     ensures { λ r. ⌜ r ≡ record { 0 = strandBytes card } ⌝ }
 {
     Bytes(4 + card.l as usize + card.r as usize)
-}
-
-// A record's bytes: seed and payload.
-pub fn record_bytes(card: Card) -> Bytes
-    ensures { λ r. ⌜ r ≡ record { 0 = recordBytes card } ⌝ }
-{
-    Bytes(4 + card.l as usize)
 }
 
 // Both ends belong to the range.

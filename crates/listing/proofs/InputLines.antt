@@ -45,6 +45,6 @@ module _ (c : Card) (weights : List ℕ) where
   lines-from p [] = refl
   lines-from p (b ∷ bytes) = lines-from (afterByte c weights p b) bytes ∙ rest-byte p b bytes
 
-  pub input-listed : (shelf input : List ℕ) → afterEnd c weights (afterBytes c weights (start shelf) input) ≡ listing c weights shelf input
+  pub input-listed : (store input : List ℕ) → afterEnd c weights (afterBytes c weights (start store) input) ≡ listing c weights store input
   unfolding listing
-  input-listed shelf input = lines-from (start shelf) input
+  input-listed store input = lines-from (start store) input

@@ -15,7 +15,7 @@ use Rattle.droplet.specs.PoolCard.{strandBytes, strandBases}
 use Rattle.droplet.specs.Questions.{cardRefusal}
 use Rattle.droplet.proofs.LegalCard.{legal}
 use Rattle.strand.specs.ReadCheck.{refused, lettersReading, readCheck}
-use Rattle.decoder.specs.Shelf.{shelving}
+use Rattle.decoder.specs.Store.{storeRead}
 
 module _ (c : Card) where
   -- no strand has this length
@@ -41,6 +41,6 @@ module _ (c : Card) where
           | inr t ↦ rw t
         ]
 
-    pub long-line : (weights buffer : List ℕ) (count : ℕ) → shelving c weights buffer count (take w line) ≡ shelving c weights buffer count line
-    unfolding shelving
+    pub long-line : (weights buffer : List ℕ) (count : ℕ) → storeRead c weights buffer count (take w line) ≡ storeRead c weights buffer count line
+    unfolding storeRead
     long-line weights buffer count = rw (reading-cut weights)

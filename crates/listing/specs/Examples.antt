@@ -12,7 +12,7 @@ use Rattle.droplet.specs.Questions.{sizesRight, limitsRight, weightsRight, card
 use Rattle.strand.specs.Letters.{letterBits, allLetters, byteBases, wordBases, lettersByte, lettersWord}
 use Rattle.strand.specs.Screen.{longestFrom, longestRun, gcCount, withinLimits, screenPasses}
 use Rattle.strand.specs.ReadCheck.{sumsZero, wordReading, lettersReading, readCheck}
-use Rattle.decoder.specs.Shelf.{recordFrom, records, sameBytes, findSeed, appended, compared, shelvedReading, shelving}
+use Rattle.decoder.specs.Store.{recordBytes, recordText, recordPayload, recordFrom, records, sameBytes, findSeed, appended, compared, storeReading, storeRead}
 use Rattle.decoder.specs.BenchExamples.{cardP, weights, letters1, letters2, letters3}
 use Rattle.listing.specs.Listing.{Listed, lastLine, linesFrom, linesOf, afterAnswer, afterLine, listing}
 
@@ -48,5 +48,5 @@ rows =
     ∷ []
 
 pub examples : All Holds rows
-unfolding lastLine linesFrom afterAnswer afterLine listing toBigEndian fromBigEndian timesPower double shiftUp horner syndromes cardRefusal sizesRight limitsRight weightsRight segmentCount strandBytes firstWeights weightAt numberAt letterBits allLetters byteBases wordBases lettersByte lettersWord longestFrom longestRun gcCount withinLimits screenPasses sumsZero wordReading lettersReading readCheck recordFrom records sameBytes findSeed appended compared shelvedReading shelving
+unfolding lastLine linesFrom afterAnswer afterLine listing toBigEndian fromBigEndian timesPower double shiftUp horner syndromes cardRefusal sizesRight limitsRight weightsRight segmentCount strandBytes firstWeights weightAt numberAt letterBits allLetters byteBases wordBases lettersByte lettersWord longestFrom longestRun gcCount withinLimits screenPasses sumsZero wordReading lettersReading readCheck recordBytes recordText recordPayload recordFrom records sameBytes findSeed appended compared storeReading storeRead
 examples = (refl, (refl, (refl, (refl, (refl, (refl, (refl, (refl, tt))))))))

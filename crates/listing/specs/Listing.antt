@@ -4,7 +4,7 @@ use mathlib.Core.List.{List, [], _∷_, _++_, foldl}
 use Prim.Native.Nat.{ℕ, suc}
 use lib.Dec.{eqb}
 use Rattle.droplet.specs.declared.card.Card.{Card}
-use Rattle.decoder.specs.Shelf.{Kept, kept, accepted, repeat, refusal, shelving}
+use Rattle.decoder.specs.Store.{Kept, kept, accepted, repeat, refusal, storeRead}
 
 -- "reads from standard input, one a line": the lines of some bytes, of which `line` is the one in hand. A newline, byte 10, ends
 -- a line, and may end an empty one: "an empty line is a read of length 0"
@@ -20,33 +20,33 @@ linesFrom line (b ∷ bs) = cond (eqb b 10) (line ∷ linesFrom [] bs) (linesFro
 abbrev pub linesOf : List ℕ → List (List ℕ)
 linesOf input = linesFrom [] input
 
--- "lines read and how they were answered", with the shelf and the count that the next call is handed
+-- "lines read and how they were answered", with the store and the count that the next call is handed
 pub record Listed : Type 0 where
   pub reads : ℕ
   pub accepted : ℕ
   pub repeated : ℕ
   pub refused : ℕ
   pub count : ℕ
-  pub shelf : List ℕ
+  pub store : List ℕ
 
 -- before the first line
 abbrev pub noneListed : List ℕ → Listed
-noneListed shelf = record { reads = 0; accepted = 0; repeated = 0; refused = 0; count = 0; shelf = shelf }
+noneListed store = record { reads = 0; accepted = 0; repeated = 0; refused = 0; count = 0; store = store }
 
 -- "Every answer but a refusal carries the count after it, which the next call is handed; after a refusal the next call is handed
 -- the count from before"
 unfoldable pub afterAnswer : Listed → Kept → Listed
-afterAnswer s (kept (accepted n) shelf) =
-    record { reads = suc (s .reads); accepted = suc (s .accepted); repeated = s .repeated; refused = s .refused; count = n; shelf = shelf }
-afterAnswer s (kept (repeat n) shelf) =
-    record { reads = suc (s .reads); accepted = s .accepted; repeated = suc (s .repeated); refused = s .refused; count = n; shelf = shelf }
-afterAnswer s (kept (refusal q) shelf) =
-    record { reads = suc (s .reads); accepted = s .accepted; repeated = s .repeated; refused = suc (s .refused); count = s .count; shelf = shelf }
+afterAnswer s (kept (accepted n) store) =
+    record { reads = suc (s .reads); accepted = suc (s .accepted); repeated = s .repeated; refused = s .refused; count = n; store = store }
+afterAnswer s (kept (repeat n) store) =
+    record { reads = suc (s .reads); accepted = s .accepted; repeated = suc (s .repeated); refused = s .refused; count = n; store = store }
+afterAnswer s (kept (refusal q) store) =
+    record { reads = suc (s .reads); accepted = s .accepted; repeated = s .repeated; refused = suc (s .refused); count = s .count; store = store }
 
--- each line is offered to the shelf
+-- each line is offered to the store
 unfoldable pub afterLine : Card → List ℕ → Listed → List ℕ → Listed
-afterLine c weights s line = afterAnswer s (shelving c weights (s .shelf) (s .count) line)
+afterLine c weights s line = afterAnswer s (storeRead c weights (s .store) (s .count) line)
 
 -- what the whole input comes to
 unfoldable pub listing : Card → List ℕ → List ℕ → List ℕ → Listed
-listing c weights shelf input = foldl (afterLine c weights) (noneListed shelf) (linesOf input)
+listing c weights store input = foldl (afterLine c weights) (noneListed store) (linesOf input)

@@ -59,27 +59,27 @@ fn print_refusal(text: &[u8], n: u8) {
     io::write_all(STDOUT_FILENO, b"\n");
 }
 
-// Lists the reads of a pool, and restores from those on the shelf.
+// Lists the reads of a pool, and restores from those on the store.
 fn list_pool(
     card: Card,
     segments: u32,
     weights: &[u8],
     chunk: &mut [u8],
     line: &mut [u8],
-    shelf: &mut [u8],
+    store: &mut [u8],
     file: &mut [u8],
     marks: &mut [u8],
     list: &mut [u32],
 )
     requires { ⌜ 289 ≤ length (now line) ⌝ }
 {
-    let t = list_reads(card, weights, chunk, line, shelf);
-    match restore(card, weights, shelf, t.count, file, marks, list) {
+    let t = list_reads(card, weights, chunk, line, store);
+    match restore(card, weights, store, t.count, file, marks, list) {
         RestoreAnswer::Restored(sheet) => {
             print_tally(t);
             print_sheet(segments, sheet);
         }
-        // No restore is refused here: the card is accepted, the count is that of this shelf, no legal read has seed 0, and the
+        // No restore is refused here: the card is accepted, the count is that of this store, no legal read has seed 0, and the
         // lent buffers are large enough for every card that is not too large.
         RestoreAnswer::Refused(n) => print_refusal(b"restore ", n),
     }
@@ -90,7 +90,7 @@ fn run(
     bytes: &[u8],
     chunk: &mut [u8],
     line: &mut [u8],
-    shelf: &mut [u8],
+    store: &mut [u8],
     file: &mut [u8],
     marks: &mut [u8],
     list: &mut [u32],
@@ -102,7 +102,7 @@ fn run(
         CardAnswer::Accepted(card, _) => {
             let k = segment_count(card);
             if k * (card.l as u32) <= 32768 {
-                list_pool(card, k, &bytes[20..], chunk, line, shelf, file, marks, list);
+                list_pool(card, k, &bytes[20..], chunk, line, store, file, marks, list);
             } else {
                 io::write_all(STDOUT_FILENO, b"card too large\n");
             }
@@ -114,7 +114,7 @@ fn main() {
     let mut bytes = [0u8; 8193];
     let mut chunk = io::large_buffer();
     let mut line = [0u8; 512];
-    let mut shelf = [0u8; 65536];
+    let mut store = [0u8; 65536];
     let mut file = [0u8; 32768];
     let mut marks = [0u8; 32768];
     let mut list = [0u32; 1024];
@@ -123,7 +123,7 @@ fn main() {
         &bytes[..n],
         &mut chunk,
         &mut line,
-        &mut shelf,
+        &mut store,
         &mut file,
         &mut marks,
         &mut list,

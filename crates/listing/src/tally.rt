@@ -2,8 +2,8 @@ ghost use mathlib.Core.Path.{_≡_};
 ghost use Prim.Native.Nat.{_+_, _%_, _^_, _≤_};
 ghost use lib.ListN.{length};
 ghost use Rattle.listing.specs.Loops.{afterNewline, afterByte, afterBytes, Begins, Counted, Goes, Closes};
-use decoder::shelf;
-use decoder::shelf::StoreAnswer;
+use decoder::store;
+use decoder::store::StoreAnswer;
 use droplet::card::Card;
 
 // What the lines so far came to, the count of records that the next call is handed, and how many bytes of the line in hand are in
@@ -14,7 +14,7 @@ pub struct Tally {
     pub repeated: u64,
     pub refused: u64,
     pub count: usize,
-    pub length: usize,
+    pub held: usize,
 }
 
 // Before the first byte of the input.
@@ -27,7 +27,7 @@ pub fn nothing_read() -> Tally
         repeated: 0,
         refused: 0,
         count: 0,
-        length: 0,
+        held: 0,
     }
 }
 
@@ -49,7 +49,7 @@ fn add_answer(t: Tally, a: StoreAnswer) -> Tally
             repeated: t.repeated,
             refused: t.refused,
             count,
-            length: 0,
+            held: 0,
         },
         StoreAnswer::Repeat(count) => Tally {
             reads,
@@ -57,7 +57,7 @@ fn add_answer(t: Tally, a: StoreAnswer) -> Tally
             repeated: one_more(t.repeated),
             refused: t.refused,
             count,
-            length: 0,
+            held: 0,
         },
         StoreAnswer::Refused(_) => Tally {
             reads,
@@ -65,34 +65,34 @@ fn add_answer(t: Tally, a: StoreAnswer) -> Tally
             repeated: t.repeated,
             refused: one_more(t.refused),
             count: t.count,
-            length: 0,
+            held: 0,
         },
     }
 }
 
-// The line in hand is whole: it is offered to the shelf, and the next one starts.
-fn end_line(card: Card, weights: &[u8], line: &[u8], shelf: &mut [u8], t: Tally) -> Tally
-    requires { ⌜ t .length ≤ length (now line) ⌝ }
-    ensures { λ r. ⌜ Goes (afterNewline card (now (weights .entry))) t (now (line .entry)) (now (shelf .entry)) r (now (line .entry)) (now (shelf .exit)) ⌝ }
+// The line in hand is whole: it is offered to the store, and the next one starts.
+fn end_line(card: Card, weights: &[u8], line: &[u8], store: &mut [u8], t: Tally) -> Tally
+    requires { ⌜ t .held ≤ length (now line) ⌝ }
+    ensures { λ r. ⌜ Goes (afterNewline card (now (weights .entry))) t (now (line .entry)) (now (store .entry)) r (now (line .entry)) (now (store .exit)) ⌝ }
 {
-    let n = t.length;
-    let answer = shelf::store_read(card, weights, shelf, t.count, &line[..n]);
+    let n = t.held;
+    let answer = store::store_read(card, weights, store, t.count, &line[..n]);
     add_answer(t, answer)
 }
 
 // The next byte of the input. Of a line that is longer than the buffer the buffer keeps the front: no strand is as long.
-fn add_byte(card: Card, weights: &[u8], line: &mut [u8], shelf: &mut [u8], t: Tally, b: u8) -> Tally
-    requires { ⌜ t .length ≤ length (now line) ⌝ }
-    ensures { λ r. ⌜ Goes (λ p. afterByte card (now (weights .entry)) p b) t (now (line .entry)) (now (shelf .entry)) r (now (line .exit)) (now (shelf .exit)) ⌝ }
+fn add_byte(card: Card, weights: &[u8], line: &mut [u8], store: &mut [u8], t: Tally, b: u8) -> Tally
+    requires { ⌜ t .held ≤ length (now line) ⌝ }
+    ensures { λ r. ⌜ Goes (λ p. afterByte card (now (weights .entry)) p b) t (now (line .entry)) (now (store .entry)) r (now (line .exit)) (now (store .exit)) ⌝ }
 {
     if b == 10 {
-        return end_line(card, weights, line, shelf, t);
+        return end_line(card, weights, line, store, t);
     }
-    let n = t.length;
+    let n = t.held;
     if n < line.len() {
         line[n] = b;
         let mut longer = t;
-        longer.length = n + 1;
+        longer.held = n + 1;
         return longer;
     }
     t
@@ -104,28 +104,28 @@ pub fn add_bytes(
     weights: &[u8],
     bytes: &[u8],
     line: &mut [u8],
-    shelf: &mut [u8],
+    store: &mut [u8],
     t: Tally,
 ) -> Tally
-    requires { ⌜ t .length ≤ length (now line) ⌝ }
-    ensures { λ r. ⌜ Goes (λ p. afterBytes card (now (weights .entry)) p (now (bytes .entry))) t (now (line .entry)) (now (shelf .entry)) r (now (line .exit)) (now (shelf .exit)) ⌝ }
+    requires { ⌜ t .held ≤ length (now line) ⌝ }
+    ensures { λ r. ⌜ Goes (λ p. afterBytes card (now (weights .entry)) p (now (bytes .entry))) t (now (line .entry)) (now (store .entry)) r (now (line .exit)) (now (store .exit)) ⌝ }
 {
     let mut u = t;
     let mut i = 0;
     while i < bytes.len() {
-        u = add_byte(card, weights, line, shelf, u, bytes[i]);
+        u = add_byte(card, weights, line, store, u, bytes[i]);
         i += 1;
     }
     u
 }
 
 // The end of the input: a line in hand is the last one. After a newline there is none.
-pub fn end_input(card: Card, weights: &[u8], line: &[u8], shelf: &mut [u8], t: Tally) -> Tally
-    requires { ⌜ t .length ≤ length (now line) ⌝ }
-    ensures { λ r. ⌜ Closes card (now (weights .entry)) t (now (line .entry)) (now (shelf .entry)) r (now (shelf .exit)) ⌝ }
+pub fn end_input(card: Card, weights: &[u8], line: &[u8], store: &mut [u8], t: Tally) -> Tally
+    requires { ⌜ t .held ≤ length (now line) ⌝ }
+    ensures { λ r. ⌜ Closes card (now (weights .entry)) t (now (line .entry)) (now (store .entry)) r (now (store .exit)) ⌝ }
 {
-    if t.length == 0 {
+    if t.held == 0 {
         return t;
     }
-    end_line(card, weights, line, shelf, t)
+    end_line(card, weights, line, store, t)
 }

@@ -14,6 +14,7 @@ use Rattle.strand.specs.ReadCheck.{readCheck, Answers}
 use Rattle.strand.specs.ReadCheck.Reading.{droplet, refused}
 use Rattle.strand.specs.CForm.{handedOver}
 use Rattle.strand.specs.CForm.CAnswer.{handed}
+use Rattle.strand.proofs.LegalStrands.{accepts-exactly}
 use Rattle.strand.proofs.ReadAnswers.{Accepts, accepts, refuses}
 
 hand-on : (L n : ℕ) (out : List ℕ) → handedOver L out (refused n) ≡ handed n out
@@ -22,17 +23,17 @@ hand-on L n out = refl
 
 module _ (c : Card) (weights read : List ℕ) (r : ReadAnswer) (answers : Answers (readCheck c weights read) r) where
   pub refusal-handed : (n : ℕ) (out : List ℕ) → r .outcome ≡ Refused n → handed n out ≡ handedOver (c .l) out (readCheck c weights read)
-  refusal-handed n out e = sym (ap (handedOver (c .l) out) (refuses c weights read r answers n e) ∙ hand-on (c .l) n out)
+  refusal-handed n out e = sym (ap (handedOver (c .l) out) (refuses (c .l) _ r answers n e) ∙ hand-on (c .l) n out)
 
   module _ (seed : ℕ) (found : r .outcome ≡ Droplet seed) where
-    told : Accepts c weights read seed (r .payload)
-    told = accepts c weights read r answers seed found
+    told : Accepts (c .l) (readCheck c weights read) seed (r .payload)
+    told = accepts (c .l) _ r answers (λ s p e. accepts-exactly c weights read s p .0 e .size) seed found
 
     pub narrow : c .l ≤ 64
-    narrow = legal c weights (told .legal .card) .sizes .l-most
+    narrow = legal c weights (accepts-exactly c weights read seed (told .payload) .0 (told .accepted) .card) .sizes .l-most
 
     pub array-size : length (r .payload) ≡ 64
-    array-size = ap length (told .held) ∙ padded-length 64 (told .payload) (omega (arith, told .legal .size, narrow))
+    array-size = ap length (told .held) ∙ padded-length 64 (told .payload) (omega (arith, told .size, narrow))
 
     pub droplet-handed : (out : List ℕ) → handedOver (c .l) out (droplet seed (take (c .l) (r .payload))) ≡ handedOver (c .l) out (readCheck c weights read)
     droplet-handed out = ap (handedOver (c .l) out) (ap (droplet seed) (told .first) ∙ sym (told .accepted))

@@ -65,6 +65,10 @@ seed-text l e =
     subst (λ (m : List ℕ). AllBytes m → (toBigEndian (fromBigEndian m) ≡ m) × (fromBigEndian m < 2 ^ 32)) (sym (four l e))
     (λ h. (from-to _ _ _ _ h, from-lt _ _ _ _ h))
 
+payload-size : (c : Card) (word : List ℕ) → length word ≡ strandBytes c → length (wordPayload c word) ≡ c .l
+unfolding strandBytes
+payload-size c word size = length-take-le (c .l) (drop 4 word) (rw length-drop (omega arith))
+
 module _ (c : Card) (few : c .r ≤ 4) (word : List ℕ) (size : length word ≡ strandBytes c) (bytes : AllBytes word) where
   front-size : length (take 4 word) ≡ 4
   unfolding strandBytes
@@ -72,10 +76,6 @@ module _ (c : Card) (few : c .r ≤ 4) (word : List ℕ) (size : length word ≡
 
   pub seed-lt : wordSeed word < 2 ^ 32
   seed-lt = seed-text (take 4 word) front-size (all-take IsByte 4 word bytes) .1
-
-  pub payload-size : length (wordPayload c word) ≡ c .l
-  unfolding strandBytes
-  payload-size = length-take-le (c .l) (drop 4 word) (rw length-drop (omega arith))
 
   pub payload-bytes : AllBytes (wordPayload c word)
   payload-bytes = all-take IsByte (c .l) (drop 4 word) (all-drop IsByte 4 word bytes)
@@ -105,38 +105,70 @@ module _ (c : Card) (few : c .r ≤ 4) (word : List ℕ) (size : length word ≡
       (all-drop IsByte (c .l) (drop 4 word) (all-drop IsByte 4 word bytes)) checks-size .0
       (subst (Vanishes (c .r)) word-parts (sums-vanish c word few e)))
 
+-- ---- what the questions 9 to 13 said of a read that they let through
+
+record LetThrough (c : Card) (read : List ℕ) (seed : ℕ) (p : List ℕ) : Type 0 where
+  bases : length read ≡ 4 * strandBytes c
+  all : allLetters read ≡ true
+  sums : sumsZero c (lettersWord read) ≡ true
+  nonzero : eqb (wordSeed (lettersWord read)) 0 ≡ false
+  passes : screenPasses c (lettersWord read) ≡ true
+  seed-is : wordSeed (lettersWord read) ≡ seed
+  payload-is : wordPayload c (lettersWord read) ≡ p
+
+module _ (c : Card) (read : List ℕ) (seed : ℕ) (p : List ℕ) (reads : lettersReading c read ≡ droplet seed p) where
+  let-through : LetThrough c read seed p
+  unfolding lettersReading wordReading
+  let-through =
+      let word = lettersWord read in
+      let last = droplet (wordSeed word) (wordPayload c word) in
+      let nine = asked seed p (cond (allLetters read) (wordReading c word) (refused 10)) _ _ reads in
+      let ten = asked seed p (wordReading c word) _ _ (nine .1) in
+      let eleven = asked seed p (cond (eqb (wordSeed word) 0) (refused 12) (cond (screenPasses c word) last (refused 13))) _ _ (ten .1) in
+      let twelve = asked-not seed p (cond (screenPasses c word) last (refused 13)) _ _ (eleven .1) in
+      let thirteen = asked seed p last _ _ (twelve .1) in
+      let same : last ≡ droplet seed p = thirteen .1 in
+      record {
+        bases = omega (arith, eqb-true (length read) (strandBases c) (nine .0));
+        all = ten .0;
+        sums = eleven .0;
+        nonzero = twelve .0;
+        passes = thirteen .0;
+        seed-is = cc same;
+        payload-is = cc same;
+      }
+
+  word-size : length (lettersWord read) ≡ strandBytes c
+  word-size = spelled-length (strandBytes c) read (let-through .bases)
+
+  pub letters-payload : length p ≡ c .l
+  letters-payload = rw (let-through .payload-is) at (payload-size c (lettersWord read) word-size)
+
 -- ---- the theorem
 
 module _ (c : Card) (weights read : List ℕ) (seed : ℕ) (p : List ℕ) where
   spells : readCheck c weights read ≡ droplet seed p → Spells c weights read seed p
-  unfolding readCheck lettersReading wordReading
+  unfolding readCheck
   spells e =
       let word = lettersWord read in
-      let last = droplet (wordSeed word) (wordPayload c word) in
       let card = asked seed p (lettersReading c read) (eqb (cardRefusal c weights) 0) (cardRefusal c weights) e in
       let fine = eqb-true (cardRefusal c weights) 0 (card .0) in
       let few = checks-bounds (legal c weights fine .sizes .check-count) .1 in
-      let nine = asked seed p (cond (allLetters read) (wordReading c word) (refused 10)) (eqb (length read) (strandBases c)) 9 (card .1) in
-      let ten = asked seed p (wordReading c word) (allLetters read) 10 (nine .1) in
-      let eleven = asked seed p (cond (eqb (wordSeed word) 0) (refused 12) (cond (screenPasses c word) last (refused 13))) (sumsZero c word) 11 (ten .1) in
-      let twelve = asked-not seed p (cond (screenPasses c word) last (refused 13)) (eqb (wordSeed word) 0) 12 (eleven .1) in
-      let thirteen = asked seed p last (screenPasses c word) 13 (twelve .1) in
-      let same : last ≡ droplet seed p = thirteen .1 in
-      let n : length read ≡ 4 * strandBytes c = omega (arith, eqb-true (length read) (strandBases c) (nine .0)) in
-      let size = spelled-length (strandBytes c) read n in
+      let through = let-through c read seed p (card .1) in
+      let is-seed = through .seed-is in
+      let is-payload = through .payload-is in
+      let size = word-size c read seed p (card .1) in
       let bytes = spelled-bytes read in
-      let is-seed : wordSeed word ≡ seed = cc same in
-      let is-payload : wordPayload c word ≡ p = cc same in
-      let strand = word-strand c few word size bytes (eleven .0) in
-      let positive = eqb-false (wordSeed word) 0 (twelve .0) in
+      let strand = word-strand c few word size bytes (through .sums) in
+      let positive = eqb-false (wordSeed word) 0 (through .nonzero) in
       record {
         card = fine;
         nonzero = rw is-seed at (let z : 0 < wordSeed word = omega arith in z);
         fits = rw is-seed at (seed-lt c few word size bytes);
-        size = rw is-payload at (payload-size c few word size bytes);
+        size = letters-payload c read seed p (card .1);
         bytes = rw is-payload at (payload-bytes c few word size bytes);
-        screened = rw (← is-seed, ← is-payload, ← strand) (thirteen .0);
-        letters = rw (← is-seed, ← is-payload, ← strand) (sym (read-back (strandBytes c) read n (ten .0)));
+        screened = rw (← is-seed, ← is-payload, ← strand) (through .passes);
+        letters = rw (← is-seed, ← is-payload, ← strand) (sym (read-back (strandBytes c) read (through .bases) (through .all)));
       }
 
   accepted : Spells c weights read seed p → readCheck c weights read ≡ droplet seed p

@@ -1,17 +1,14 @@
--- What a caller of the read check learns of its answer. Assumes nothing.
+-- What a caller of the read check, or of its questions 9 to 13 alone, learns of the answer. Assumes nothing.
 use mathlib.Core.Path.{_≡_, sym, ap, _∙_}
 use mathlib.Core.List.{List}
 use Prim.Native.Nat.{ℕ}
-use lib.ListN.{take}
+use lib.ListN.{length, take}
 use Rattle.field.specs.Bytes.{padded}
 use Rattle.field.proofs.ByteLists.{take-padded}
-use Rattle.droplet.specs.declared.card.Card.{Card}
 use Rattle.strand.specs.declared.read_check.ReadOutcome.the-variants.{Droplet, Refused}
 use Rattle.strand.specs.declared.read_check.ReadAnswer.{ReadAnswer}
-use Rattle.strand.specs.ReadCheck.{Reading, readCheck, outcomeOf, payloadOf, Answers}
+use Rattle.strand.specs.ReadCheck.{Reading, outcomeOf, payloadOf, Answers}
 use Rattle.strand.specs.ReadCheck.Reading.{droplet, refused}
-use Rattle.strand.specs.LegalStrand.{Spells}
-use Rattle.strand.proofs.LegalStrands.{accepts-exactly}
 
 says-droplet : (x : Reading) (seed : ℕ) → Droplet seed ≡ outcomeOf x → x ≡ droplet seed (payloadOf x)
 says-droplet (droplet s p) seed e = cc
@@ -21,27 +18,28 @@ says-refused : (x : Reading) (n : ℕ) → Refused n ≡ outcomeOf x → x ≡ r
 says-refused (droplet s p) n e = cc
 says-refused (refused m) n e = cc
 
--- the read is legal, and the answer holds its payload
-pub record Accepts (c : Card) (weights read : List ℕ) (seed : ℕ) (array : List ℕ) : Type 0 where
+-- the reading is a droplet's, and the answer's array holds its payload of L bytes
+pub record Accepts (L : ℕ) (reading : Reading) (seed : ℕ) (array : List ℕ) : Type 0 where
   pub payload : List ℕ
-  pub accepted : readCheck c weights read ≡ droplet seed payload
-  pub legal : Spells c weights read seed payload
+  pub accepted : reading ≡ droplet seed payload
+  pub size : length payload ≡ L
   pub held : array ≡ padded 64 payload
-  pub first : take (c .l) array ≡ payload
+  pub first : take L array ≡ payload
 
-module _ (c : Card) (weights read : List ℕ) (r : ReadAnswer) (answers : Answers (readCheck c weights read) r) where
-  pub accepts : (seed : ℕ) → r .outcome ≡ Droplet seed → Accepts c weights read seed (r .payload)
-  accepts seed e =
-      let payload = payloadOf (readCheck c weights read) in
-      let reading = says-droplet (readCheck c weights read) seed (sym e ∙ answers .says) in
-      let legal = accepts-exactly c weights read seed payload .0 reading in
+module _ (L : ℕ) (reading : Reading) (r : ReadAnswer) (answers : Answers reading r) where
+  pub accepts : ((seed : ℕ) (p : List ℕ) → reading ≡ droplet seed p → length p ≡ L)
+      → (seed : ℕ) → r .outcome ≡ Droplet seed → Accepts L reading seed (r .payload)
+  accepts sized seed e =
+      let payload = payloadOf reading in
+      let accepted = says-droplet reading seed (sym e ∙ answers .says) in
+      let size = sized seed payload accepted in
       record {
         payload = payload;
-        accepted = reading;
-        legal = legal;
+        accepted = accepted;
+        size = size;
         held = answers .holds;
-        first = ap (take (c .l)) (answers .holds) ∙ rw (legal .size) at (take-padded 64 payload);
+        first = ap (take L) (answers .holds) ∙ rw size at (take-padded 64 payload);
       }
 
-  pub refuses : (n : ℕ) → r .outcome ≡ Refused n → readCheck c weights read ≡ refused n
-  refuses n e = says-refused (readCheck c weights read) n (sym e ∙ answers .says)
+  pub refuses : (n : ℕ) → r .outcome ≡ Refused n → reading ≡ refused n
+  refuses n e = says-refused reading n (sym e ∙ answers .says)

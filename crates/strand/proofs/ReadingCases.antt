@@ -14,17 +14,17 @@ use Rattle.strand.specs.Letters.{allLetters, lettersWord}
 use Rattle.strand.specs.Screen.{screenPasses}
 use Rattle.strand.specs.ReadCheck.{wordSeed, wordPayload, sumsZero, wordReading, lettersReading, readCheck}
 use Rattle.strand.specs.ReadCheck.Reading.{droplet, refused}
-use Rattle.strand.specs.Loops.{Measured, IsWord}
+use Rattle.strand.specs.Loops.{InRange, IsWord}
 
 -- ---- lengths
 
-pub strand-fits : (c : Card) → Measured c → (4 + c .l ≤ strandBytes c) × (strandBytes c ≤ 72)
+pub strand-fits : (c : Card) → InRange c → (4 + c .l ≤ strandBytes c) × (strandBytes c ≤ 72)
 unfolding strandBytes
 strand-fits c h =
     ⊎-elim (λ e. (omega (arith, h .l-most), omega (arith, h .l-most))) (λ e. (omega (arith, h .l-most), omega (arith, h .l-most))) (h .check-count)
 
 pub word-fits : (c : Card) (word : List ℕ) → IsWord c word → (4 + c .l ≤ length word) × (length word ≤ 72)
-word-fits c word h = rw (h .long) (strand-fits c (h .measured))
+word-fits c word h = rw (h .long) (strand-fits c (h .card))
 
 -- ---- 11 to 13
 

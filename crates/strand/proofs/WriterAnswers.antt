@@ -4,7 +4,7 @@ use mathlib.Core.Bool.{Bool, true, false, cond, _&&_}
 use mathlib.Core.List.{List, _++_}
 use Prim.Native.Nat.{ℕ, suc, _+_, _*_, _≤_}
 use native.Mathlib.Omega.{arith}
-use borrow.Author.Tests.{eq-eqb, ne-eqb, leb-true}
+use borrow.Author.Tests.{eq-eqb, ne-eqb, eqb-false, leb-true}
 use lib.Dec.{eqb, leb}
 use lib.ListN.{length, take, take-append-drop}
 use Rattle.droplet.specs.declared.card.Card.{Card}
@@ -13,30 +13,32 @@ use Rattle.droplet.specs.Questions.{cardRefusal}
 use Rattle.droplet.proofs.Conjunctions.{and-true, said-yes}
 use Rattle.strand.specs.declared.writer.Run.{Run}
 use Rattle.strand.specs.declared.writer.WriteAnswer.the-variants as answer
-use Rattle.strand.specs.Writer.{writerRefusal, WriterPromise}
-use Rattle.strand.specs.Loops.{Ran, ownRefusal}
+use Rattle.strand.specs.Writer.{ownRefusal, writerRefusal, WriterPromise}
+use Rattle.strand.specs.Loops.{Ran}
 use Rattle.strand.proofs.Lines.{text-length}
 
 -- ---- the questions 5 to 8
 
-said-no : (b : Bool) (n others : ℕ) → cond b (suc n) others ≡ 0 → others ≡ 0
+said-no : (b : Bool) (n others : ℕ) → cond b (suc n) others ≡ 0 → (b ≡ false) × (others ≡ 0)
 said-no true n others e = absurd (let z : ⊥ = omega arith in z)
-said-no false n others e = e
+said-no false n others e = (refl, e)
 
 -- what they leave where all say yes
-pub record Room (c : Card) (degrees wanted buffer numbers : ℕ) : Type 0 where
+pub record Room (c : Card) (degrees start wanted buffer numbers : ℕ) : Type 0 where
+  pub starts : start ≡ 0 → ⊥
   pub lines : wanted * (strandBases c + 1) ≤ buffer
   pub places : degrees ≤ numbers
 
-pub roomy : {c : Card} {degrees wanted buffer numbers : ℕ} (file start : ℕ) → ownRefusal c degrees file start wanted buffer numbers ≡ 0
-    → Room c degrees wanted buffer numbers
+pub roomy : {c : Card} {degrees start wanted buffer numbers : ℕ} (file : ℕ) → ownRefusal c degrees file start wanted buffer numbers ≡ 0
+    → Room c degrees start wanted buffer numbers
 unfolding ownRefusal
-roomy {c} {degrees} {wanted} {buffer} {numbers} file start e =
+roomy {c} {degrees} {start} {wanted} {buffer} {numbers} file e =
     let five = said-yes (eqb file (c .f)) _ _ e in
     let six = said-no (eqb start 0) _ _ (five .1) in
-    let seven = said-yes (leb wanted 1000000 && leb (wanted * (strandBases c + 1)) buffer) _ _ six in
+    let seven = said-yes (leb wanted 1000000 && leb (wanted * (strandBases c + 1)) buffer) _ _ (six .1) in
     let eight = said-yes (leb degrees numbers) _ _ (seven .1) in
     record {
+      starts = eqb-false start 0 (six .0);
       lines = leb-true _ buffer (and-true (leb wanted 1000000) _ (seven .0) .1);
       places = leb-true degrees numbers (eight .0);
     }
@@ -44,17 +46,17 @@ roomy {c} {degrees} {wanted} {buffer} {numbers} file start e =
 -- ---- the answers
 
 -- after 2 to 4, only 5 to 8 are left
-own : (c : Card) (ws file : List ℕ) (start wanted buffer numbers : ℕ) → cardRefusal c ws ≡ 0
-    → writerRefusal c ws file start wanted buffer numbers ≡ ownRefusal c (weightCount ws) (length file) start wanted buffer numbers
-unfolding writerRefusal ownRefusal
+pub own : (c : Card) (ws : List ℕ) (file start wanted buffer numbers : ℕ) → cardRefusal c ws ≡ 0
+    → writerRefusal c ws file start wanted buffer numbers ≡ ownRefusal c (weightCount ws) file start wanted buffer numbers
+unfolding writerRefusal
 own c ws file start wanted buffer numbers legal = rw (eq-eqb _ _ legal)
 
 module _ {c : Card} {ws file : List ℕ} {start wanted budget : ℕ} {out list : List ℕ} where
-  refused : {n : ℕ} → writerRefusal c ws file start wanted (length out) (length list) ≡ n → (n ≡ 0 → ⊥)
+  refused : {n : ℕ} → writerRefusal c ws (length file) start wanted (length out) (length list) ≡ n → (n ≡ 0 → ⊥)
       → WriterPromise c ws file start wanted budget out list (answer.Refused n) out list
   refused e not-zero =
       let no = ne-eqb _ _ not-zero in
-      record { says = rw (e, no); prints = rw (e, no); keeps = refl; untouched = λ _. refl }
+      record { says = rw (e, no); leaves = record { prints = rw (e, no); keeps = refl; untouched = λ _. refl } }
 
   pub card-refused : {n : ℕ} → cardRefusal c ws ≡ n → (n ≡ 0 → ⊥)
       → WriterPromise c ws file start wanted budget out list (answer.Refused n) out list
@@ -64,17 +66,21 @@ module _ {c : Card} {ws file : List ℕ} {start wanted budget : ℕ} {out list :
   module _ (legal : cardRefusal c ws ≡ 0) where
     pub own-refused : {n : ℕ} → n ≡ ownRefusal c (weightCount ws) (length file) start wanted (length out) (length list) → (n ≡ 0 → ⊥)
         → WriterPromise c ws file start wanted budget out list (answer.Refused n) out list
-    own-refused e = refused (own c ws file start wanted _ _ legal ∙ sym e)
+    own-refused e = refused (own c ws (length file) start wanted _ _ legal ∙ sym e)
 
     pub answered : {run : Run} {out′ list′ : List ℕ} → 0 ≡ ownRefusal c (weightCount ws) (length file) start wanted (length out) (length list)
         → Ran c ws file start wanted budget run out list out′ list′
         → WriterPromise c ws file start wanted budget out list (answer.Written run) out′ list′
     answered {run} {out′} e ran =
-        let yes : eqb (writerRefusal c ws file start wanted (length out) (length list)) 0 ≡ true = eq-eqb _ _ (own c ws file start wanted _ _ legal ∙ sym e) in
+        let yes : eqb (writerRefusal c ws (length file) start wanted (length out) (length list)) 0 ≡ true = eq-eqb _ _ (own c ws (length file) start wanted _ _ legal ∙ sym e) in
         let n = text-length c ws file start wanted budget _ _ _ _ _ (ran .ends) in
         record {
           says = rw (yes, ran .ends);
-          prints = rw (yes, ran .ends, n) (sym (take-append-drop (run .made * (strandBases c + 1)) out′) ∙ ap (_++_ (take (run .made * (strandBases c + 1)) out′)) (ran .rest));
-          keeps = ran .keeps;
-          untouched = λ no. absurd (let z : _≡_ {A = ℕ} 0 1 = cc in let f : ⊥ = omega arith in f);
+          leaves = record {
+            prints =
+                rw (yes, ran .ends, n)
+                (sym (take-append-drop (run .made * (strandBases c + 1)) out′) ∙ ap (_++_ (take (run .made * (strandBases c + 1)) out′)) (ran .rest));
+            keeps = ran .keeps;
+            untouched = λ no. absurd (let z : _≡_ {A = ℕ} 0 1 = cc in let f : ⊥ = omega arith in f);
+          };
         }

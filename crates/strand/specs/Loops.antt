@@ -67,13 +67,13 @@ runsAfter runs base =
     let now = cond (eqb base (runs .last)) (suc (runs .run)) 1 in record { last = base; run = now; longest = max (runs .longest) now }
 
 -- what the functions that check a read need of a card that was not refused
-pub record Measured (c : Card) : Type 0 where
+pub record InRange (c : Card) : Type 0 where
   pub l-most : c .l ≤ 64
   pub check-count : CheckCount (c .r)
 
 -- a word of a strand's length under such a card
 pub record IsWord (c : Card) (word : List ℕ) : Type 0 where
-  pub measured : Measured c
+  pub card : InRange c
   pub long : length word ≡ strandBytes c
 
 -- ---- the writer
@@ -111,10 +111,3 @@ pub record Ran (c : Card) (weights file : List ℕ) (start wanted budget : ℕ) 
       ≡ written (run .stop) (run .made) (run .tried) (run .next) (take (run .made * (strandBases c + 1)) out′)
   pub rest : drop (run .made * (strandBases c + 1)) out′ ≡ drop (run .made * (strandBases c + 1)) out
   pub keeps : drop (weightCount weights) list′ ≡ drop (weightCount weights) list
-
--- the questions 5 to 8 alone, of D and the lengths
-unfoldable pub ownRefusal : Card → ℕ → ℕ → ℕ → ℕ → ℕ → ℕ → ℕ
-ownRefusal c degrees file start wanted buffer numbers =
-    cond (eqb file (c .f))
-    (cond (eqb start 0) 6
-    (cond (leb wanted 1000000 && leb (wanted * (strandBases c + 1)) buffer) (cond (leb degrees numbers) 0 8) 7)) 5

@@ -80,32 +80,53 @@ pub record RunFacts (c : Card) (weights file : List ℕ) (start wanted budget : 
 abbrev pub continuing : ℕ → ℕ → List ℕ → Written → Written
 continuing made tried text (written stop made′ tried′ next text′) = written stop (made + made′) (tried + tried′) next (text ++ text′)
 
--- 5 to 8, after 2 to 4: "file length F? Start not 0? Wanted at most 1,000,000 and buffer at least wanted times (n+1)?
+-- 5 to 8, of D and the lengths: "file length F? Start not 0? Wanted at most 1,000,000 and buffer at least wanted times (n+1)?
 -- Number list at least D long?"
-unfoldable pub writerRefusal : Card → List ℕ → List ℕ → ℕ → ℕ → ℕ → ℕ → ℕ
-writerRefusal c weights file start wanted buffer numbers =
-    cond (eqb (cardRefusal c weights) 0)
-    (cond (eqb (length file) (c .f))
+unfoldable pub ownRefusal : Card → ℕ → ℕ → ℕ → ℕ → ℕ → ℕ → ℕ
+ownRefusal c D fileLength start wanted outLength listLength =
+    cond (eqb fileLength (c .f))
     (cond (eqb start 0) 6
-    (cond (leb wanted 1000000 && leb (wanted * (strandBases c + 1)) buffer) (cond (leb (weightCount weights) numbers) 0 8) 7)) 5)
+    (cond (leb wanted 1000000 && leb (wanted * (strandBases c + 1)) outLength) (cond (leb D listLength) 0 8) 7)) 5
+
+-- 2 to 4, and then these
+unfoldable pub writerRefusal : Card → List ℕ → ℕ → ℕ → ℕ → ℕ → ℕ → ℕ
+writerRefusal c weights fileLength start wanted outLength listLength =
+    cond (eqb (cardRefusal c weights) 0) (ownRefusal c (weightCount weights) fileLength start wanted outLength listLength)
     (cardRefusal c weights)
 
--- the answer, by its cases
-abbrev pub runAnswer : Written → WriteAnswer
-runAnswer (written stop made tried next text) = answer.Written (record { stop = stop; made = made; tried = tried; next = next })
+-- what the writer answers, by its cases: the stop, made, tried and the next seed, or the refusal number
+pub data Wrote : Type 0 where
+  wrote : Stop → ℕ → ℕ → ℕ → Wrote
+  refusal : ℕ → Wrote
+
+abbrev pub writeAnswer : WriteAnswer → Wrote
+writeAnswer (answer.Written run) = wrote (run .stop) (run .made) (run .tried) (run .next)
+writeAnswer (answer.Refused n) = refusal n
+
+abbrev pub runAnswer : Written → Wrote
+runAnswer (written stop made tried next text) = wrote stop made tried next
 
 abbrev pub runText : Written → List ℕ
 runText (written stop made tried next text) = text
 
--- the promise of the writer: its answer, and its buffer and number list at exit
-pub record WriterPromise (c : Card) (weights file : List ℕ) (start wanted budget : ℕ) (out list : List ℕ) (r : WriteAnswer) (out′ list′ : List ℕ) : Type 0 where
-  pub says : r
-      ≡ cond (eqb (writerRefusal c weights file start wanted (length out) (length list)) 0) (runAnswer (writerRun c weights file start wanted budget))
-      (answer.Refused (writerRefusal c weights file start wanted (length out) (length list)))
-  -- "Bytes past made times (n+1) keep what they had"; a refusal changes nothing
-  pub prints : out′
-      ≡ cond (eqb (writerRefusal c weights file start wanted (length out) (length list)) 0)
-      (runText (writerRun c weights file start wanted budget) ++ drop (length (runText (writerRun c weights file start wanted budget))) out) out
-  -- the number list is free in its first D places alone
+-- the answer, and "Bytes past made times (n+1) keep what they had"; a refusal changes nothing
+abbrev pub writerAnswer : Card → List ℕ → List ℕ → ℕ → ℕ → ℕ → ℕ → ℕ → Wrote
+writerAnswer c weights file start wanted budget outLength listLength =
+    let no = writerRefusal c weights (length file) start wanted outLength listLength in
+    cond (eqb no 0) (runAnswer (writerRun c weights file start wanted budget)) (refusal no)
+
+abbrev pub writerText : Card → List ℕ → List ℕ → ℕ → ℕ → ℕ → List ℕ → ℕ → List ℕ
+writerText c weights file start wanted budget out listLength =
+    let text = runText (writerRun c weights file start wanted budget) in
+    cond (eqb (writerRefusal c weights (length file) start wanted (length out) listLength) 0) (text ++ drop (length text) out) out
+
+-- what the writer leaves: its buffer at exit, and the number list, free in its first D places alone
+pub record WriterLeaves (c : Card) (weights file : List ℕ) (start wanted budget : ℕ) (out list out′ list′ : List ℕ) : Type 0 where
+  pub prints : out′ ≡ writerText c weights file start wanted budget out (length list)
   pub keeps : drop (weightCount weights) list′ ≡ drop (weightCount weights) list
-  pub untouched : eqb (writerRefusal c weights file start wanted (length out) (length list)) 0 ≡ false → list′ ≡ list
+  pub untouched : eqb (writerRefusal c weights (length file) start wanted (length out) (length list)) 0 ≡ false → list′ ≡ list
+
+-- the promise of the writer
+pub record WriterPromise (c : Card) (weights file : List ℕ) (start wanted budget : ℕ) (out list : List ℕ) (r : WriteAnswer) (out′ list′ : List ℕ) : Type 0 where
+  pub says : writeAnswer r ≡ writerAnswer c weights file start wanted budget (length out) (length list)
+  pub leaves : WriterLeaves c weights file start wanted budget out list out′ list′

@@ -5,9 +5,9 @@ ghost use Rattle.strand.specs.ReadCheck.{readCheck};
 ghost use Rattle.strand.specs.ReadCheck.Reading.{droplet};
 ghost use Rattle.strand.specs.CForm.{handedOver};
 ghost use Rattle.strand.specs.CForm.CAnswer.{handed};
+use crate::droplet_bytes;
 use crate::read_check;
 use crate::read_check::ReadOutcome;
-use crate::records;
 use droplet::card::Card;
 
 // Question 16, and then the droplet into the lent buffer.
@@ -18,7 +18,7 @@ fn hand_over(seed: u32, l: usize, payload: &[u8], out: &mut [u8]) -> u32
     if out.len() < 4 + l {
         return 16;
     }
-    records::put_record(seed, &payload[..l], out);
+    droplet_bytes::put_droplet(seed, &payload[..l], out);
     0
 }
 

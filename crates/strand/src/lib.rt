@@ -1,7 +1,8 @@
 // The third layer: letters, screen, the read check with its C form, and the writer.
 pub mod c_form;
+pub mod droplet_bytes;
 pub mod letters;
 pub mod read_check;
-pub mod records;
 pub mod screen;
+mod tables;
 pub mod writer;

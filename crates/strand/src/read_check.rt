@@ -4,9 +4,9 @@ ghost use lib.ListN.{length};
 ghost use Rattle.field.specs.Bytes.{padded};
 ghost use Rattle.strand.specs.ReadCheck.{allZero, wordReading, lettersReading, readCheck, Answers};
 ghost use Rattle.strand.specs.ReadCheck.Reading.{refused};
-ghost use Rattle.strand.specs.Loops.{Measured, IsWord};
+ghost use Rattle.strand.specs.Loops.{InRange, IsWord};
+use crate::droplet_bytes;
 use crate::letters;
-use crate::records;
 use crate::screen;
 use droplet::card;
 use droplet::card::Bases;
@@ -56,7 +56,7 @@ fn pad(payload: &[u8]) -> [u8; 64]
     ensures { λ r. ⌜ r ≡ padded 64 (now (payload .entry)) ⌝ }
 {
     let mut out = [0u8; 64];
-    records::copy(payload, &mut out);
+    droplet_bytes::copy(payload, &mut out);
     out
 }
 
@@ -67,7 +67,7 @@ fn check_word(card: Card, word: &[u8]) -> ReadAnswer
 {
     let sums = check_bytes::syndromes_of(card.r, word);
     if all_zero(sums) {
-        let seed = records::seed_of(word);
+        let seed = droplet_bytes::seed_of(word);
         if seed == 0 {
             return refuse(12);
         }
@@ -97,7 +97,7 @@ fn check_letters(card: Card, read: &[u8], word: &mut [u8]) -> ReadAnswer
 
 // Question 9, and then 10 to 13. The buffer has space for the longest word.
 fn check_length(card: Card, read: &[u8], buffer: &mut [u8]) -> ReadAnswer
-    requires { ⌜ Measured card × (length (now buffer) ≡ 72) ⌝ }
+    requires { ⌜ InRange card × (length (now buffer) ≡ 72) ⌝ }
     ensures { λ r. ⌜ Answers (lettersReading card (now (read .entry))) r ⌝ }
 {
     let n = Bases(read.len());
@@ -111,7 +111,7 @@ fn check_length(card: Card, read: &[u8], buffer: &mut [u8]) -> ReadAnswer
 
 // The questions 9 to 13, for a caller that has asked the card's own.
 pub fn check_strand(card: Card, read: &[u8]) -> ReadAnswer
-    requires { ⌜ Measured card ⌝ }
+    requires { ⌜ InRange card ⌝ }
     ensures { λ r. ⌜ Answers (lettersReading card (now (read .entry))) r ⌝ }
 {
     let mut word = [0u8; 72];

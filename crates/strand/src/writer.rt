@@ -4,12 +4,13 @@ ghost use lib.ListN.{length, take};
 ghost use Rattle.field.specs.CheckBytes.{CheckCount};
 ghost use Rattle.droplet.specs.PoolCard.{strandBytes, strandBases};
 ghost use Rattle.strand.specs.ReadCheck.{strandWord};
-ghost use Rattle.strand.specs.Writer.{strandLine, WriterPromise};
-ghost use Rattle.strand.specs.Loops.{withText, Makable, Made, Printed, Tried, Ran, ownRefusal};
+ghost use Rattle.strand.specs.Writer.{strandLine, ownRefusal, WriterPromise};
+ghost use Rattle.strand.specs.Loops.{withText, Makable, Made, Printed, Tried, Ran};
+use crate::droplet_bytes;
 use crate::letters;
-use crate::records;
 use crate::screen;
 use droplet::card;
+use droplet::card::Bytes;
 use droplet::card::Card;
 use droplet::card::Plan;
 use droplet::card::PlanAnswer;
@@ -43,9 +44,9 @@ fn fill_word(card: Card, seed: u32, payload: &[u8], word: &mut [u8])
     ensures { λ _. ⌜ take (strandBytes card) (now (word .exit)) ≡ strandWord card seed (now (payload .entry)) ⌝ }
 {
     let message = 4 + payload.len();
-    records::put_record(seed, payload, word);
+    droplet_bytes::put_droplet(seed, payload, word);
     let parity = check_bytes::parity_of(card.r, &word[..message]);
-    records::copy(&parity, &mut word[message..]);
+    droplet_bytes::copy(&parity, &mut word[message..]);
 }
 
 // The word of the strand that a seed gives for the file, in the first bytes of `word`.
@@ -69,10 +70,10 @@ fn make_word(
 
 // A strand's letters and a newline from the place `at` of `out` on.
 fn write_line(word: &[u8], out: &mut [u8], at: usize)
-    requires { ⌜ at + length (now word) * 4 + 1 ≤ length (now out) ⌝ }
+    requires { ⌜ (length (now word) ≤ 72) × (at + length (now word) * 4 + 1 ≤ length (now out)) ⌝ }
     ensures { λ _. ⌜ now (out .exit) ≡ withText at (strandLine (now (word .entry))) (now (out .entry)) ⌝ }
 {
-    let end = at + word.len() * 4;
+    let end = at + card::to_bases(Bytes(word.len())).0;
     letters::write_letters(word, &mut out[at..end]);
     out[end] = 10;
 }
@@ -168,16 +169,16 @@ fn run_seeds(
 fn own_refusal(
     card: Card,
     degrees: u32,
-    file: usize,
+    file_len: usize,
     start: u32,
     wanted: u32,
-    buffer: usize,
-    numbers: usize,
+    out_len: usize,
+    list_len: usize,
 ) -> u8
     requires { ⌜ strandBytes card ≤ 72 ⌝ }
-    ensures { λ r. ⌜ r ≡ ownRefusal card degrees file start wanted buffer numbers ⌝ }
+    ensures { λ r. ⌜ r ≡ ownRefusal card degrees «file_len» start wanted «out_len» «list_len» ⌝ }
 {
-    if file != card.f as usize {
+    if file_len != card.f as usize {
         return 5;
     }
     if start == 0 {
@@ -186,10 +187,10 @@ fn own_refusal(
     if 1000000 < wanted {
         return 7;
     }
-    if buffer < (wanted as usize) * line_bytes(card) {
+    if out_len < (wanted as usize) * line_bytes(card) {
         return 7;
     }
-    if numbers < degrees as usize {
+    if list_len < degrees as usize {
         return 8;
     }
     0

@@ -1,24 +1,21 @@
 -- `fountain_write` meets its contract: the numbers of each of the writer's answers. Assumes nothing.
-use mathlib.Core.Path.{_≡_, refl, ap, _∙_}
+use mathlib.Core.Path.{_≡_, ap, _∙_}
 use mathlib.Core.List.{List}
 use Prim.Native.Nat.{ℕ}
 use Rattle.droplet.specs.declared.card.Card.{Card}
 use Rattle.strand.specs.declared.writer.WriteAnswer.{WriteAnswer}
-use Rattle.strand.specs.Writer.{WriterPromise}
+use Rattle.strand.specs.Writer.{writeAnswer, WriterPromise}
 use Rattle.capi.specs.CForms.{returned, writeReturned, WriteForm}
 use borrow.Author.Needs.{needs}
 use Rattle.capi.proofs.c_forms.fountain_write.Statement.{statement}
 use Rattle.capi.proofs.c_forms.fountain_write.Tie as tie
 
--- the answer's numbers, with the writer's own promise, which names its answer
+-- the answer's numbers, with what the writer leaves
 formed : {c : Card} {weights file : List ℕ} {start wanted budget : ℕ} {out list : List ℕ} {r : WriteAnswer} {out′ list′ : List ℕ}
     → WriterPromise c weights file start wanted budget out list r out′ list′
-    → (answer : List ℕ) (n : ℕ) (answer′ : List ℕ) → returned n answer′ ≡ writeReturned answer r
+    → (answer : List ℕ) (n : ℕ) (answer′ : List ℕ) → returned n answer′ ≡ writeReturned answer (writeAnswer r)
     → WriteForm c weights file start wanted budget out list answer n out′ list′ answer′
-formed p answer n answer′ e = record {
-  returns = e ∙ ap (writeReturned answer) (p .says);
-  leaves = record { says = refl; prints = p .prints; keeps = p .keeps; untouched = p .untouched };
-}
+formed p answer n answer′ e = record { returns = e ∙ ap (writeReturned answer) (p .says); leaves = p .leaves }
 
 returns : tie.Need-returns
 unfolding writeReturned

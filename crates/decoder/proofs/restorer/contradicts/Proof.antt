@@ -10,10 +10,14 @@ use Rattle.droplet.specs.PoolCard.{weightCount}
 use Rattle.decoder.specs.Store.{recordFrom}
 use Rattle.decoder.specs.Restorer.{contradicts}
 use Rattle.decoder.specs.Loops.{dropletOf}
+use Rattle.decoder.proofs.RecordBytes.{parts-fit}
 use Rattle.decoder.proofs.RecordTurns.{degree-places, list-kept, agrees-unless, xor-long, contradicts-by}
 use borrow.Author.Needs.{needs}
 use Rattle.decoder.proofs.restorer.contradicts.Statement.{statement}
 use Rattle.decoder.proofs.restorer.contradicts.Tie as tie
+
+draw-record-requires : tie.Need-draw-record-requires
+draw-record-requires c κs = let parts = parts-fit (c .before .before .before .before .before .before .args .l) in search needs
 
 returns : tie.Need-returns
 returns c =
@@ -40,11 +44,17 @@ slice-aggregate-payload-of c =
     let places = degree-places _ _ _ (x .args .bytes .now) _ _ _ _ _ (x .pre .0) (x .pre .1) (d .draw-record .ensures) in
     sym (length-take-le _ _ (omega arith))
 
+payload-in-requires : tie.Need-payload-in-requires
+payload-in-requires c κs =
+    let x = c .before .before .before .before .before .before .before .before .before .before .before .before .before .before in
+    (x .pre .1 .narrow, omega arith)
+
 starts-with-requires : tie.Need-starts-with-requires
 starts-with-requires c κs =
     let d = c .before .before .before .before .before .before .before .before in
     let x = d .before .before .before .before .before .before .before in
-    xor-long _ _ _ (x .args .bytes .now) _ _ _ _ _ (x .pre .0) (x .pre .1) (d .draw-record .ensures) (c .before .before .before .before .enum-told .given .1) _ (c .before .before .payload-of .ensures)
+    rw (c .payload-in .ensures)
+    (xor-long _ _ _ (x .args .bytes .now) _ _ _ _ _ (x .pre .0) (x .pre .1) (d .draw-record .ensures) (c .before .before .before .before .enum-told .given .1) _ (c .before .before .payload-of .ensures))
 
 -- the comparison decides
 compared : (c : tie.After-starts-with)
@@ -59,7 +69,7 @@ compared c =
     let x = d .before .before .before .before .before .before .before in
     let seen = d .draw-record .ensures in (
       contradicts-by _ _ _ (x .args .bytes .now) _ _ _ _ _ (x .pre .0) (x .pre .1) seen (c .before .before .before .before .before .enum-told .given .1) _ (c .before .before .before .payload-of .ensures) _
-          (c .starts-with .ensures),
+          (rw (c .before .payload-in .ensures) at (c .starts-with .ensures)),
       list-kept _ _ _ (x .args .bytes .now) _ _ _ _ _ (x .pre .0) (x .pre .1) seen,
     )
 
@@ -73,7 +83,7 @@ pub contradicts-spec : {M : Type 1} → statement M
 contradicts-spec =
     tie.close
     (tie.spec
-    (λ c κs. search needs)
+    draw-record-requires
     (λ c. search needs)
     (λ c. search needs)
     returns
@@ -81,9 +91,7 @@ contradicts-spec =
     slice-aggregate-payload-of
     (λ c κs. search needs)
     (λ c. search needs)
-    (λ c. search needs)
-    (λ c. search needs)
-    (λ c. search needs)
+    payload-in-requires
     starts-with-requires
     (λ c. search needs)
     returns-2

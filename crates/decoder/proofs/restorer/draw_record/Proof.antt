@@ -4,11 +4,10 @@ use mathlib.Core.List.{[]}
 use Prim.Native.Nat.{_-_, _%_, _<_, _≤_}
 use native.Mathlib.Nat.{mod-lt}
 use native.Mathlib.Omega.{arith}
-use lib.ListN.{take}
-use Rattle.field.specs.Bytes.{fromBigEndian}
 use Rattle.droplet.specs.PoolCard.{weightCount, weightSum}
 use Rattle.droplet.specs.Droplet.{degreeOf, pickFrom, segmentsOf}
 use Rattle.droplet.proofs.Degree.{degree-is}
+use Rattle.decoder.specs.Store.{recordSeed}
 use borrow.Author.Needs.{needs}
 use Rattle.decoder.proofs.restorer.draw_record.Statement.{statement}
 use Rattle.decoder.proofs.restorer.draw_record.Tie as tie
@@ -33,7 +32,7 @@ returns c =
     let x = c .before .before .before .before .before .before .before .before .before .before .before .before .before .before .args in
     let d = c .before .before .before .before .degree-for .result in
     let first = c .before .before .before .before .before .before .before .next .result in
-    let set : pickFrom d first (x .plan .segments - d) [] ≡ segmentsOf (x .weights .now) (x .plan .segments) (fromBigEndian (take 4 (x .bytes .now))) = cc in
+    let set : pickFrom d first (x .plan .segments - d) [] ≡ segmentsOf (x .weights .now) (x .plan .segments) (recordSeed (x .bytes .now)) = cc in
     record { degree = cc; looked = rw set at (c .before .before .draw-set .ensures) }
 
 pub draw-record-spec : {M : Type 1} → statement M

@@ -3,11 +3,11 @@ use mathlib.Core.Path.{_≡_, sym, ap, _∙_}
 use mathlib.Core.List.{List}
 use Prim.Native.Nat.{ℕ, _-_, _≤_}
 use native.Mathlib.Omega.{arith}
-use lib.ListN.{length, take}
-use Rattle.field.specs.Bytes.{fromBigEndian}
-use Rattle.decoder.specs.Store.{records}
+use lib.ListN.{length}
+use Rattle.decoder.specs.Store.{recordSeed, records}
 use Rattle.decoder.specs.Restorer.{hasSeed}
 use Rattle.decoder.specs.Loops.{recordAt}
+use Rattle.decoder.proofs.RecordBytes.{parts-fit}
 use Rattle.decoder.proofs.RecordsAt.{recordsFrom, records-all, record-fits, record-length}
 use Rattle.decoder.proofs.SeedZero.{seed-here, seed-past, seed-end}
 use borrow.Author.Needs.{needs}
@@ -23,8 +23,8 @@ abbrev μ-loop : tie.MeasureT-loop
 -- the seed that is read is the record's
 seed : (c : tie.After-seed-of Inv-loop μ-loop)
     → (let x = c .before .before .before .before .before .args in
-    c .seed-of .result ≡ fromBigEndian (take 4 (recordAt (x .l) (x .store .now) (c .before .before .before .loop .i))))
-seed c = c .seed-of .ensures ∙ ap (λ (r : List ℕ). fromBigEndian (take 4 r)) (c .before .record-at .ensures)
+    c .seed-of .result ≡ recordSeed (recordAt (x .l) (x .store .now) (c .before .before .before .loop .i)))
+seed c = c .seed-of .ensures ∙ ap recordSeed (c .before .record-at .ensures)
 
 loop-holds : tie.Need-loop-holds Inv-loop μ-loop
 loop-holds c = (search needs, ap (hasSeed 0) (records-all _ _ _))
@@ -40,7 +40,7 @@ seed-of-requires c κs =
     let x = l .before .before .before in
     let own = ap length (c .record-at .ensures)
     ∙ record-length (x .args .l) (x .args .count) (x .args .store .now) (l .before .loop .i) (l .loop-test .taken) (x .pre .1) in
-    omega arith
+    omega (arith, own, parts-fit (x .args .l))
 
 returns : tie.Need-returns Inv-loop μ-loop
 returns c =

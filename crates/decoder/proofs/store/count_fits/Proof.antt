@@ -7,6 +7,8 @@ use native.Mathlib.Omega.{arith}
 use borrow.Author.Tests.{le-leb, lt-leb}
 use lib.Dec.{leb}
 use lib.ListN.{length}
+use Rattle.decoder.specs.Store.{recordBytes}
+use Rattle.decoder.proofs.RecordBytes.{parts-fit}
 use borrow.Author.Needs.{needs}
 use Rattle.decoder.proofs.store.count_fits.Statement.{statement}
 use Rattle.decoder.proofs.store.count_fits.Tie as tie
@@ -20,8 +22,13 @@ within-quotient count width size h =
           rw (lt-leb _ _ less, lt-leb _ _ (div-lt-iff-lt-mul h .0 less))
     ]
 
+div-result : tie.Need-div-result
+div-result c = let wide = c .record-bytes .ensures in let parts = parts-fit (c .before .before .args .l) in search needs
+
 returns : tie.Need-returns
-returns c = within-quotient (c .args .count) (4 + c .args .l) (length (c .args .store .now)) (omega arith)
+returns c =
+    let args = c .before .before .args in
+    rw (c .record-bytes .ensures) (within-quotient (args .count) (recordBytes (args .l)) (length (args .store .now)) (omega (arith, parts-fit (args .l))))
 
 pub count-fits-spec : {M : Type 1} → statement M
-count-fits-spec = tie.close (tie.spec (λ c. search needs) (λ c. search needs) returns)
+count-fits-spec = tie.close (tie.spec (λ c κs. search needs) div-result returns)

@@ -5,9 +5,8 @@ use Prim.Native.Nat.{ℕ}
 use native.Mathlib.Omega.{arith}
 use borrow.Author.Needs.{needs}
 use lib.ListN.{length, take, length-take}
-use Rattle.droplet.proofs.LegalCard.{legal as legal-card}
-use Rattle.strand.specs.ReadCheck.{Reading, refused, readCheck, Answers}
-use Rattle.strand.proofs.ReadingCases.{case-letters}
+use Rattle.strand.specs.ReadCheck.{Reading, refused, lettersReading}
+use Rattle.strand.proofs.LegalStrands.{letters-payload}
 use Rattle.strand.proofs.ReadAnswers.{Accepts, accepts, refuses}
 use Rattle.decoder.specs.declared.store.StoreAnswer.the-variants.{Refused}
 use Rattle.decoder.specs.Store.{storeReading}
@@ -20,45 +19,32 @@ handed-on : (L : ℕ) (buffer : List ℕ) (count : ℕ) (reading : Reading) (n :
 unfolding storeReading
 handed-on L buffer count reading n e = rw e (record { says = refl; leaves = refl })
 
--- the card was not refused, so this is the read check's answer
-answered : (c : tie.After-check-strand) → (let args = c .before .before .before .before .args in
-    Answers (readCheck (args .card) (args .weights .now) (args .read .now)) (c .check-strand .result))
-answered c =
-    let s = c .before .before .before .before in
-    rw (case-letters (s .args .card) (s .args .weights .now) (s .args .read .now) (s .pre .1)) (c .check-strand .ensures)
-
 -- the answer holds a droplet
 legal : (c : tie.After-known-told) → (let check = c .before .before .before .before in
-    let args = check .before .before .before .before .args in
-    Accepts (args .card) (args .weights .now) (args .read .now) (c .before .outcome .given .0 .0) (check .check-strand .result .payload))
-legal c = accepts _ _ _ _ (answered (c .before .before .before .before)) _ (c .before .outcome .given .1)
+    let args = check .before .before .before .args in
+    Accepts (args .card .l) (lettersReading (args .card) (args .read .now)) (c .before .outcome .given .0 .0) (check .check-strand .result .payload))
+legal c = accepts _ _ _ (c .before .before .before .before .check-strand .ensures) (letters-payload _ _) _ (c .before .outcome .given .1)
 
 -- of its payload array the first L bytes are lent
 size : (c : tie.After-known-told) → (let check = c .before .before .before .before in
-    let L = check .before .before .before .before .args .card .l in
+    let L = check .before .before .before .args .card .l in
     length (take L (check .check-strand .result .payload)) ≡ L)
-size c = rw (legal c .first) (legal c .legal .size)
-
-check-strand-requires : tie.Need-check-strand-requires
-check-strand-requires c κs =
-    let s = c .before .before .before in
-    let sizes = legal-card (s .args .card) (s .args .weights .now) (s .pre .1) .sizes in
-    record { l-most = sizes .l-most; check-count = sizes .check-count }
+size c = rw (legal c .first) (legal c .size)
 
 returns : tie.Need-returns
 returns c =
     let told = c .before in
     let check = told .before .before .before in
-    let args = check .before .before .before .before .args in
+    let args = check .before .before .before .args in
     rw (c .refusal-of .ensures ∙ ap refusalNumber (told .enum-told .given .1))
     (handed-on (args .card .l) (args .store .now) (args .count) _ _
-    (refuses _ _ _ _ (answered check) _ (told .enum-told .given .1)))
+    (refuses (args .card .l) _ _ (check .check-strand .ensures) _ (told .enum-told .given .1)))
 
 array-share-prefix-payload : tie.Need-array-share-prefix-payload
 array-share-prefix-payload c =
     let told = c .before .before in
     let check = told .before .before .before .before in
-    omega (arith, size told, length-take (check .before .before .before .before .args .card .l) (check .check-strand .result .payload))
+    omega (arith, size told, length-take (check .before .before .before .args .card .l) (check .check-strand .result .payload))
 
 slice-aggregate-store-droplet : tie.Need-slice-aggregate-store-droplet
 slice-aggregate-store-droplet c = sym (size (c .before .before .before))
@@ -66,7 +52,7 @@ slice-aggregate-store-droplet c = sym (size (c .before .before .before))
 store-droplet-requires : tie.Need-store-droplet-requires
 store-droplet-requires c κs =
     let told = c .before .before .before in
-    rw (size told) (told .before .before .before .before .before .before .before .before .pre .0)
+    rw (size told) (told .before .before .before .before .before .before .before .pre .0)
 
 returns-2 : tie.Need-returns-2
 returns-2 c =
@@ -77,7 +63,7 @@ pub offer-spec : {M : Type 1} → statement M
 offer-spec =
     tie.close
     (tie.spec
-    check-strand-requires
+    (λ c κs. search needs)
     (λ c. search needs)
     (λ c. search needs)
     (λ c κs. search needs)

@@ -1,16 +1,18 @@
 -- `store_droplet` meets its contract: the first record of the seed decides, and where there is none a record is appended. Assumes nothing.
-use mathlib.Core.Path.{_≡_, refl}
+use mathlib.Core.Path.{_≡_, refl, ap, _∙_}
 use mathlib.Core.Bool.{Bool, cond}
 use mathlib.Core.List.{List}
 use Prim.Native.Nat.{ℕ}
 use native.Mathlib.Omega.{arith}
 use borrow.Author.Needs.{needs}
-use lib.ListN.{length, length-drop}
+use lib.ListN.{length, drop, length-drop}
+use lib.Seq.{take-all}
 use Rattle.strand.specs.ReadCheck.{droplet}
 use Rattle.decoder.specs.declared.store.Place.the-variants.{At}
-use Rattle.decoder.specs.Store.{Found, found, absent, findSeed, records, sameBytes, kept, repeat, refusal, appended, compared, storeReading}
+use Rattle.decoder.specs.Store.{recordPayload, Found, found, absent, findSeed, records, sameBytes, kept, repeat, refusal, appended, compared, storeReading}
 use Rattle.decoder.specs.StoreLoops.{Sought}
 use Rattle.decoder.proofs.BufferParts.{rest-whole}
+use Rattle.decoder.proofs.RecordBytes.{payload-size}
 use Rattle.decoder.proofs.store.store_droplet.Statement.{statement}
 use Rattle.decoder.proofs.store.store_droplet.Tie as tie
 
@@ -41,24 +43,41 @@ returns c =
     let none = rw (told .enum-told .given .1) at (told .before .before .find-seed .ensures) in
     rw (new (length (args .payload .now)) (args .store .now) (args .count) (args .seed) (args .payload .now) none) (c .before .before .append .ensures)
 
-add-from : tie.Need-add-from
-add-from c = let within = there c .0 in search needs
+sub-payload-in : tie.Need-sub-payload-in
+sub-payload-in c = let within = there c .0 in search needs
 
-sub-starts-with : tie.Need-sub-starts-with
-sub-starts-with c = let within = there c .0 in search needs
+part-payload-in-start : tie.Need-part-payload-in-start
+part-payload-in-start c = let within = there (c .before) .0 in search needs
 
-part-starts-with-start : tie.Need-part-starts-with-start
-part-starts-with-start c = let within = there (c .before) .0 in search needs
+payload-in-requires : tie.Need-payload-in-requires
+payload-in-requires c κs =
+    let told = c .before .before in
+    let within = there told .0 in
+    rw rest-whole (told .before .before .before .before .before .before .before .pre .short, rw length-drop (omega arith))
+
+-- the payload of the record that was found
+stored : (c : tie.After-payload-in) → (let told = c .before .before .before in
+    let args = told .before .before .before .before .before .before .before .args in
+    c .payload-in .result .now ≡ recordPayload (length (args .payload .now)) (drop (told .before .at .given .0 .0) (args .store .now)))
+stored c = rw rest-whole at (c .payload-in .ensures)
+
+stored-size : (c : tie.After-payload-in) → (let args = c .before .before .before .before .before .before .before .before .before .before .args in
+    length (c .payload-in .result .now) ≡ length (args .payload .now))
+stored-size c =
+    let within = there (c .before .before .before) .0 in
+    ap length (stored c) ∙ payload-size _ _ (rw length-drop (omega arith))
 
 starts-with-requires : tie.Need-starts-with-requires
-starts-with-requires c κs =
-    let within = there (c .before .before) .0 in
-    rw rest-whole (rw length-drop (omega arith))
+starts-with-requires c κs = omega (arith, stored-size c)
 
-said : (c : tie.After-starts-with) → (let args = c .before .before .before .before .before .before .before .before .before .before .args in
+said : (c : tie.After-starts-with) → (let args = c .before .before .before .before .before .before .before .before .before .before .before .args in
     storeReading (length (args .payload .now)) (args .store .now) (args .count) (droplet (args .seed) (args .payload .now))
     ≡ cond (c .starts-with .result) (kept (repeat (args .count)) (args .store .now)) (kept (refusal 15) (args .store .now)))
-said c = known _ _ _ _ _ _ _ (there (c .before .before .before) .1) (rw rest-whole at (c .starts-with .ensures))
+said c =
+    let p = c .before in
+    let args = p .before .before .before .before .before .before .before .before .before .before .args in
+    let all = take-all (length (args .payload .now)) (p .payload-in .result .now) (omega (arith, stored-size p)) in
+    known _ _ _ _ _ _ _ (there (p .before .before .before) .1) (rw (all, stored p) at (c .starts-with .ensures))
 
 returns-2 : tie.Need-returns-2
 returns-2 c = rw (said (c .before), c .if1 .taken) (record { says = refl; leaves = refl })
@@ -76,10 +95,10 @@ store-droplet-spec =
     (λ c κs. search needs)
     (λ c. search needs)
     returns
-    add-from
-    sub-starts-with
-    part-starts-with-start
+    sub-payload-in
+    part-payload-in-start
     (λ c. search needs)
+    payload-in-requires
     starts-with-requires
     (λ c. search needs)
     returns-2

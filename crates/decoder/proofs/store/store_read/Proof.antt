@@ -7,7 +7,8 @@ use borrow.Author.Tests.{ne-eqb, leb-true}
 use Rattle.droplet.specs.declared.card.Card.{Card}
 use Rattle.droplet.specs.Questions.{cardRefusal}
 use Rattle.droplet.proofs.CardAnswers.{SaysNo, Passed, passed, stopped}
-use Rattle.strand.specs.ReadCheck.{readCheck}
+use Rattle.strand.specs.ReadCheck.{lettersReading}
+use Rattle.strand.proofs.ReadingCases.{case-letters}
 use Rattle.decoder.specs.declared.store.StoreAnswer.{StoreAnswer}
 use Rattle.decoder.specs.declared.store.StoreAnswer.the-variants.{Refused}
 use Rattle.decoder.specs.Store.{countFits, storeReading, storeRead, StorePromise}
@@ -29,9 +30,11 @@ module _ (c : Card) (weights buffer : List ℕ) (count : ℕ) (read : List ℕ) 
     overfull e = record { says = rw (legal, e); leaves = rw (legal, e) }
 
     stored : countFits (c .l) buffer count ≡ true → (r : StoreAnswer) (after : List ℕ)
-        → Keeps (storeReading (c .l) buffer count (readCheck c weights read)) r after → StorePromise c weights buffer count read r after
+        → Keeps (storeReading (c .l) buffer count (lettersReading c read)) r after → StorePromise c weights buffer count read r after
     unfolding storeRead
-    stored e r after k = record { says = rw (legal, e) (k .says); leaves = rw (legal, e) (k .leaves) }
+    stored e r after k =
+        let letters = case-letters c weights read legal in
+        record { says = rw (legal, e, letters) (k .says); leaves = rw (legal, e, letters) (k .leaves) }
 
 -- past the questions 2 to 4
 legal : (c : tie.After-enum-told) → (let args = c .before .before .before .before .before .before .args in
@@ -47,8 +50,10 @@ count-fits-requires c κs = legal (c .before .before) .legal .sizes .l-most
 offer-requires : tie.Need-offer-requires
 offer-requires c κs =
     let fits = c .before .before in
-    let card = legal (fits .before .before .before) in
-    (record { short = card .legal .sizes .l-most; fits = leb-true _ _ (sym (fits .count-fits .ensures) ∙ c .before .if1 .taken) }, card .unrefused)
+    let card = legal (fits .before .before .before) in (
+      record { short = card .legal .sizes .l-most; fits = leb-true _ _ (sym (fits .count-fits .ensures) ∙ c .before .if1 .taken) },
+      record { l-most = card .legal .sizes .l-most; check-count = card .legal .sizes .check-count },
+    )
 
 returns-2 : tie.Need-returns-2
 returns-2 c =

@@ -4,16 +4,16 @@ use native.Mathlib.Omega.{arith}
 use lib.ListN.{length}
 use borrow.Author.Needs.{needs}
 use Rattle.listing.specs.Loops.{Came}
-use Rattle.listing.proofs.LineInHand.{none-came, came-then}
+use Rattle.listing.proofs.LineInHand.{none-came, came-read}
 use Rattle.listing.proofs.input.read_all.Statement.{statement}
 use Rattle.listing.proofs.input.read_all.Tie as tie
 
 abbrev Inv-loop : tie.InvT-loop
-Inv-loop card weights chunk₀ line₀ shelf₀ u₀ turns₀ chunk line shelf u turns =
-    (length chunk ≡ length chunk₀) × (length line ≡ length line₀) × (length shelf ≡ length shelf₀) × Came card weights u₀ line₀ shelf₀ u line shelf
+Inv-loop card weights chunk₀ line₀ store₀ u₀ turns₀ chunk line store u turns =
+    (length chunk ≡ length chunk₀) × (length line ≡ length line₀) × (length store ≡ length store₀) × Came card weights u₀ line₀ store₀ u line store
 
 abbrev μ-loop : tie.MeasureT-loop
-μ-loop card weights chunk₀ line₀ shelf₀ u₀ turns₀ chunk line shelf u turns = turns
+μ-loop card weights chunk₀ line₀ store₀ u₀ turns₀ chunk line store u turns = turns
 
 loop-holds : tie.Need-loop-holds Inv-loop μ-loop
 loop-holds c = (refl, refl, refl, none-came _ _ _ _ _ (omega arith))
@@ -25,10 +25,10 @@ read-some-requires c κs = c .before .before .before .before .loop .inv .3 .goes
 came : (c : tie.After-u Inv-loop μ-loop) → (let at = c .before .before .before .before .before .before .before .before .before .before .before .before in
     let args = at .before .before .before .before .before .args in
     let turn = c .before .before .before .before .before .before .before in
-    Came (args .card) (args .weights .now) (args .t) (args .line .now) (args .shelf .now) (turn .read-some .result .tally) (turn .read-some .last .1 .1 .1 .0) (turn .read-some .last .1 .1 .1 .1 .0))
+    Came (args .card) (args .weights .now) (args .t) (args .line .now) (args .store .now) (turn .read-some .result .tally) (turn .read-some .last .1 .1 .1 .0) (turn .read-some .last .1 .1 .1 .1 .0))
 came c =
     let turn = c .before .before .before .before .before .before .before in
-    came-then _ _ _ _ _ _ _ _ _ _ _ (turn .before .before .before .before .before .loop .inv .3) (turn .read-some .ensures)
+    came-read _ _ _ _ _ _ _ _ _ _ _ _ (turn .before .before .before .before .before .loop .inv .3) (turn .read-some .ensures)
 
 loop-again : tie.Need-loop-again Inv-loop μ-loop
 loop-again c = (search needs, search needs, search needs, came (c .before))

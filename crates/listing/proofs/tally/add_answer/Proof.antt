@@ -11,14 +11,14 @@ unfolding afterAnswer
 returns c =
     let read = c .before .before .before .before .one-more .ensures in
     record {
-      numbers = λ s shelf h. rw (c .before .before .a .given .1) (record {
+      numbers = λ s store h. rw (c .before .before .a .given .1) (record {
         reads = read ∙ one-more _ _ (h .reads);
         accepted = c .one-more2 .ensures ∙ one-more _ _ (h .accepted);
         repeated = h .repeated;
         refused = h .refused;
         count = refl;
       });
-      length = refl;
+      empty = refl;
     }
 
 returns-2 : tie.Need-returns-2
@@ -26,14 +26,14 @@ unfolding afterAnswer
 returns-2 c =
     let read = c .before .before .before .before .one-more .ensures in
     record {
-      numbers = λ s shelf h. rw (c .before .before .a2 .given .1) (record {
+      numbers = λ s store h. rw (c .before .before .a2 .given .1) (record {
         reads = read ∙ one-more _ _ (h .reads);
         accepted = h .accepted;
         repeated = c .one-more3 .ensures ∙ one-more _ _ (h .repeated);
         refused = h .refused;
         count = refl;
       });
-      length = refl;
+      empty = refl;
     }
 
 returns-3 : tie.Need-returns-3
@@ -41,14 +41,14 @@ unfolding afterAnswer
 returns-3 c =
     let read = c .before .before .before .one-more .ensures in
     record {
-      numbers = λ s shelf h. rw (c .before .enum-told .given .1) (record {
+      numbers = λ s store h. rw (c .before .enum-told .given .1) (record {
         reads = read ∙ one-more _ _ (h .reads);
         accepted = h .accepted;
         repeated = h .repeated;
         refused = c .one-more4 .ensures ∙ one-more _ _ (h .refused);
         count = h .count;
       });
-      length = refl;
+      empty = refl;
     }
 
 pub add-answer-spec : {M : Type 1} → statement M

@@ -11,11 +11,11 @@ use Rattle.listing.proofs.tally.add_bytes.Statement.{statement}
 use Rattle.listing.proofs.tally.add_bytes.Tie as tie
 
 abbrev Inv-loop : tie.InvT-loop
-Inv-loop card weights bytes line₀ shelf₀ u₀ i₀ line shelf u i =
-    (length line ≡ length line₀) × (length shelf ≡ length shelf₀) × (i ≤ length bytes) × Goes (λ p. afterBytes card weights p (take i bytes)) u₀ line₀ shelf₀ u line shelf
+Inv-loop card weights bytes line₀ store₀ u₀ i₀ line store u i =
+    (length line ≡ length line₀) × (length store ≡ length store₀) × (i ≤ length bytes) × Goes (λ p. afterBytes card weights p (take i bytes)) u₀ line₀ store₀ u line store
 
 abbrev μ-loop : tie.MeasureT-loop
-μ-loop card weights bytes line₀ shelf₀ u₀ i₀ line shelf u i = length bytes - i
+μ-loop card weights bytes line₀ store₀ u₀ i₀ line store u i = length bytes - i
 
 loop-holds : tie.Need-loop-holds Inv-loop μ-loop
 loop-holds c = (refl, refl, search needs, record { within = c .before .before .before .before .pre; holds = λ p h. h })

@@ -7,7 +7,7 @@ use Rattle.listing.proofs.tally.nothing_read.Statement.{statement}
 use Rattle.listing.proofs.tally.nothing_read.Tie as tie
 
 returns : tie.Need-returns
-returns c = λ line shelf wide. record {
+returns c = λ line store wide. record {
   lines = record { numbers = record { reads = refl; accepted = refl; repeated = refl; refused = refl; count = refl }; records = refl };
   hand = record { wide = wide; size = omega arith; part = sym (take-nil (length line)) };
 }

@@ -13,11 +13,11 @@ returns : tie.Need-returns
 unfolding handedOver
 returns c = simp (lt-leb _ _ (c .if1 .taken))
 
-slice-aggregate-put-record : tie.Need-slice-aggregate-put-record
-slice-aggregate-put-record c = sym (length-take-le _ _ (omega arith))
+slice-aggregate-put-droplet : tie.Need-slice-aggregate-put-droplet
+slice-aggregate-put-droplet c = sym (length-take-le _ _ (omega arith))
 
-put-record-requires : tie.Need-put-record-requires
-put-record-requires c κs =
+put-droplet-requires : tie.Need-put-droplet-requires
+put-droplet-requires c κs =
     let s = c .before .before .before .before .before in
     let n : length (take (s .args .l) (s .args .payload .now)) ≡ s .args .l = length-take-le _ _ (omega arith) in
     omega (arith, n, c .before .before .if1 .left)
@@ -29,9 +29,9 @@ returns-2 c =
     let e = q .before .before .before in
     let s = e .before .before .before in
     let n : length (take (s .args .l) (s .args .payload .now)) ≡ s .args .l = length-take-le _ _ (omega arith) in
-    rw (le-leb _ _ (e .if1 .left), q .put-record .ensures, n)
+    rw (le-leb _ _ (e .if1 .left), q .put-droplet .ensures, n)
 
 pub hand-over-spec : {M : Type 1} → statement M
 hand-over-spec =
     tie.close
-    (tie.spec (λ c. search needs) returns slice-aggregate-put-record put-record-requires (λ c. search needs) returns-2)
+    (tie.spec (λ c. search needs) returns slice-aggregate-put-droplet put-droplet-requires (λ c. search needs) returns-2)

@@ -56,7 +56,7 @@ check-letters-requires c κs =
     let n = length-take-le _ (s .args .buffer .now) (within (c .before)) in
     let d = c .before .before .before .before .before in
     let bases = in-bases (s .args .card) _ _ (d .before .strand-bytes .ensures) (d .to-bases .ensures) in
-    (record { measured = s .pre .0; long = n ∙ sized (c .before) }, omega (arith, n, sized (c .before), bases, c .before .before .if1 .left))
+    (record { card = s .pre .0; long = n ∙ sized (c .before) }, omega (arith, n, sized (c .before), bases, c .before .before .if1 .left))
 
 returns-2 : tie.Need-returns-2
 returns-2 c = c .before .before .check-letters .ensures

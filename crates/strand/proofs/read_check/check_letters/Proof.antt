@@ -23,7 +23,7 @@ module _ (card : Card) (word read : List ℕ) (is : IsWord card word) (same : le
 
   filled : (new : List ℕ) → new ≡ lettersWord read → IsWord card new
   filled new e =
-      record { measured = is .measured; long = ap length e ∙ spelled-length (strandBytes card) read (omega (arith, is .long)) }
+      record { card = is .card; long = ap length e ∙ spelled-length (strandBytes card) read (omega (arith, is .long)) }
 
   spelled : (new : List ℕ) (r : ReadAnswer) → allLetters read ≡ true → new ≡ lettersWord read → Answers (wordReading card new) r
       → Answers (lettersReading card read) r

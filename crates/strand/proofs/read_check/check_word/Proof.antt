@@ -29,7 +29,7 @@ accepted card word payload seed e s p =
     rw e (record { says = ap Droplet s; holds = rw n at p })
 
 syndromes-of-requires : tie.Need-syndromes-of-requires
-syndromes-of-requires c κs = c .before .pre .measured .check-count
+syndromes-of-requires c κs = c .before .pre .card .check-count
 
 seed-of-requires : tie.Need-seed-of-requires
 seed-of-requires c κs = omega (arith, word-fits _ _ (c .before .before .before .before .pre) .0)

@@ -53,7 +53,7 @@ returns : tie.Need-returns
 returns c =
     let r = c .before .before .before .before .before .before .before .before .before in
     let s = r .before .before .before .before in
-    filled (s .args .card) (s .args .seed) (s .args .payload .now) _ _ _ _ _ _ (s .pre .0) (s .pre .1) (r .put-record .ensures)
+    filled (s .args .card) (s .args .seed) (s .args .payload .now) _ _ _ _ _ _ (s .pre .0) (s .pre .1) (r .put-droplet .ensures)
     (c .before .before .before .before .before .parity-of .ensures) (c .before .before .copy .ensures)
 
 pub fill-word-spec : {M : Type 1} → statement M

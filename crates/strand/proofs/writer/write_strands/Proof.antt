@@ -3,7 +3,7 @@ use mathlib.Core.Path.{_≡_, sym, _∙_}
 use lib.ListN.{length}
 use Rattle.droplet.specs.PoolCard.{weightCount}
 use Rattle.droplet.proofs.CardAnswers.{Passed, passed, stopped}
-use Rattle.strand.specs.Loops.{ownRefusal}
+use Rattle.strand.specs.Writer.{ownRefusal}
 use Rattle.strand.proofs.WriterAnswers.{roomy, card-refused, own-refused, answered}
 use borrow.Author.Needs.{needs}
 use Rattle.strand.proofs.writer.write_strands.Statement.{statement}
@@ -40,7 +40,7 @@ returns-2 c = own-refused (ready (c .before .before) .unrefused) (asked (c .befo
 run-seeds-requires : tie.Need-run-seeds-requires
 run-seeds-requires c κs =
     let p = ready (c .before .before .before .before .before) in
-    let r = roomy _ _ (sym (clear (c .before .before .before))) in (
+    let r = roomy _ (sym (clear (c .before .before .before))) in (
       record {
         legal = p .unrefused;
         segments = p .segments;

@@ -18,7 +18,7 @@ pub fn copy(from: &[u8], to: &mut [u8])
     }
 }
 
-// The seed with which a record starts, and a strand's word too.
+// The seed with which a droplet's bytes start: those of a strand's word, and of a record.
 pub fn seed_of(word: &[u8]) -> u32
     requires { ⌜ 4 ≤ length (now word) ⌝ }
     ensures { λ r. ⌜ r ≡ wordSeed (now (word .entry)) ⌝ }
@@ -26,8 +26,8 @@ pub fn seed_of(word: &[u8]) -> u32
     bytes::join(word[0], word[1], word[2], word[3])
 }
 
-// Writes a record, seed and payload, at the start of a buffer.
-pub fn put_record(seed: u32, payload: &[u8], out: &mut [u8])
+// Writes a droplet, seed and payload, at the start of a buffer.
+pub fn put_droplet(seed: u32, payload: &[u8], out: &mut [u8])
     requires { ⌜ 4 + length (now payload) ≤ length (now out) ⌝ }
     ensures { λ _. ⌜ now (out .exit) ≡ toBigEndian seed ++ (now (payload .entry) ++ drop (4 + length (now (payload .entry))) (now (out .entry))) ⌝ }
 {

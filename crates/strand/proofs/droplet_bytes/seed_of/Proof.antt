@@ -4,8 +4,8 @@ use native.Mathlib.Omega.{arith}
 use Rattle.droplet.specs.PoolCard.{numberAt}
 use Rattle.droplet.proofs.NumberAt.{number-four}
 use borrow.Author.Needs.{needs}
-use Rattle.strand.proofs.records.seed_of.Statement.{statement}
-use Rattle.strand.proofs.records.seed_of.Tie as tie
+use Rattle.strand.proofs.droplet_bytes.seed_of.Statement.{statement}
+use Rattle.strand.proofs.droplet_bytes.seed_of.Tie as tie
 
 returns : tie.Need-returns
 unfolding numberAt

@@ -1,4 +1,4 @@
--- `put_record` meets its contract: the seed's bytes, the payload after them, and what stood past them. Assumes nothing.
+-- `put_droplet` meets its contract: the seed's bytes, the payload after them, and what stood past them. Assumes nothing.
 use mathlib.Core.Path.{_≡_, sym, ap, _∙_}
 use mathlib.Core.List.{List, [], _++_, append-nil}
 use Prim.Native.Nat.{ℕ, _+_, _-_}
@@ -8,8 +8,8 @@ use lib.Seq.{take-at, drop-at, drop-drop, take-all}
 use Rattle.field.specs.Bytes.{toBigEndian}
 use Rattle.field.proofs.BigEndian.{to-length}
 use borrow.Author.Needs.{needs}
-use Rattle.strand.proofs.records.put_record.Statement.{statement}
-use Rattle.strand.proofs.records.put_record.Tie as tie
+use Rattle.strand.proofs.droplet_bytes.put_droplet.Statement.{statement}
+use Rattle.strand.proofs.droplet_bytes.put_droplet.Tie as tie
 
 -- a part from 4 on, put back after the first four
 joined : (seed : ℕ) (four payload out once part : List ℕ) → four ≡ toBigEndian seed → once ≡ four ++ drop (length four) out
@@ -31,8 +31,8 @@ returns c =
     joined (a .seed) (s .before .before .before .split .result) (a .payload .now) (a .out .now) (s .copy .last .1 .0) (c .before .before .copy2 .last .1 .0) (s .before .before .before .split .ensures)
     (s .copy .ensures) (c .before .before .copy2 .ensures)
 
-pub put-record-spec : {M : Type 1} → statement M
-put-record-spec =
+pub put-droplet-spec : {M : Type 1} → statement M
+put-droplet-spec =
     tie.close
     (tie.spec
     (λ c κs. search needs)
