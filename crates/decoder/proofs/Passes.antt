@@ -44,4 +44,4 @@ module _ (L : ℕ) (Inv : State → Type 0) (P : Droplet → Type 0) (keeps : (d
   pub peelAll-keeps : (K : ℕ) (ds : List Droplet) (file marks : List ℕ) → All P ds → Inv (cleared K L file marks)
       → Inv (peeledState (peelAll K L ds file marks))
   unfolding peelAll
-  peelAll-keeps K ds file marks = peel-keeps (suc K) K ds 0 (cleared K L file marks)
+  peelAll-keeps K ds file marks = peel-keeps _ K ds 0 (cleared K L file marks)

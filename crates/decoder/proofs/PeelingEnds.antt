@@ -71,13 +71,13 @@ module _ (K L : ℕ) (ds : List Droplet) (w : All (IsDroplet K L) ds) where
 module _ (K L : ℕ) (ds : List Droplet) (file marks : List ℕ) (ok : Peelable K L ds file marks) where
   pub peelAll-still : Still ds (stateAfter K L ds file marks)
   unfolding peelAll
-  peelAll-still = peel-still K L ds (ok .droplets) (suc K) 0 (cleared K L file marks) (cleared-sized K L ds file marks ok) (omega arith)
+  peelAll-still = peel-still K L ds (ok .droplets) _ 0 (cleared K L file marks) (cleared-sized K L ds file marks ok) (omega arith)
 
   -- the K + 1 passes that the definition allows are no limit
   pub peelAll-enough : (spare : ℕ) → peel (suc K + spare) K L ds 0 (cleared K L file marks) ≡ peelAll K L ds file marks
   unfolding peelAll
   peelAll-enough spare =
-      peel-enough K L ds (ok .droplets) (suc K) spare 0 (cleared K L file marks) (cleared-sized K L ds file marks ok) (omega arith)
+      peel-enough K L ds (ok .droplets) _ spare 0 (cleared K L file marks) (cleared-sized K L ds file marks ok) (omega arith)
 
   -- "at most the segments it answers as present, plus one"
   pub peelAll-passes : peeledPasses (peelAll K L ds file marks) ≤ present K (stateAfter K L ds file marks .marks) + 1

@@ -122,11 +122,11 @@ module _ (c : Card) (read : List ℕ) (seed : ℕ) (p : List ℕ) (reads : lette
   let-through =
       let word = lettersWord read in
       let last = droplet (wordSeed word) (wordPayload c word) in
-      let nine = asked seed p (cond (allLetters read) (wordReading c word) (refused 10)) _ _ reads in
-      let ten = asked seed p (wordReading c word) _ _ (nine .1) in
-      let eleven = asked seed p (cond (eqb (wordSeed word) 0) (refused 12) (cond (screenPasses c word) last (refused 13))) _ _ (ten .1) in
-      let twelve = asked-not seed p (cond (screenPasses c word) last (refused 13)) _ _ (eleven .1) in
-      let thirteen = asked seed p last _ _ (twelve .1) in
+      let nine = asked seed p _ _ _ reads in
+      let ten = asked seed p _ _ _ (nine .1) in
+      let eleven = asked seed p _ _ _ (ten .1) in
+      let twelve = asked-not seed p _ _ _ (eleven .1) in
+      let thirteen = asked seed p _ _ _ (twelve .1) in
       let same : last ≡ droplet seed p = thirteen .1 in
       record {
         bases = omega (arith, eqb-true (length read) (strandBases c) (nine .0));
