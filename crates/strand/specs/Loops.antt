@@ -2,22 +2,34 @@
 use mathlib.Core.Path.{_≡_}
 use mathlib.Core.Bool.{cond, Bool, _&&_}
 use mathlib.Core.List.{List, [], _∷_, _++_}
-use Prim.Native.Nat.{ℕ, zero, suc, max, _≤_, _+_, _*_, _/_, _%_}
-use lib.Dec.{eqb, leb}
+use Prim.Native.Nat.{ℕ, zero, suc, max, _≤_, _<_, _+_, _*_, _/_, _%_}
+use lib.Dec.{eqb, leb, ltb}
 use lib.ListN.{length, take, drop}
 use Rattle.field.specs.CheckBytes.{CheckCount}
 use Rattle.droplet.specs.declared.card.Card.{Card}
 use Rattle.droplet.specs.PoolCard.{strandBytes, segmentCount, weightCount, weightSum, strandBases}
 use Rattle.droplet.specs.declared.card.Plan.{Plan}
 use Rattle.droplet.specs.Questions.{cardRefusal}
+use Rattle.strand.specs.declared.letters.Letter.{Letter}
+use Rattle.strand.specs.declared.letters.Letter.the-variants.{Bits, Other}
 use Rattle.strand.specs.declared.letters.Spelled.{Spelled}
 use Rattle.strand.specs.declared.letters.Spelled.the-variants.{Byte, Nothing}
 use Rattle.strand.specs.declared.screen.Inside.{Inside}
 use Rattle.strand.specs.declared.screen.Runs.{Runs}
-use Rattle.strand.specs.Letters.{allLetters, lettersByte}
+use Rattle.strand.specs.Letters.{letterBits, allLetters, lettersByte}
 use Rattle.strand.specs.declared.writer.Run.{Run}
 use Rattle.strand.specs.Screen.{byteGc, screenPasses}
 use Rattle.strand.specs.Writer.{seedWord, strandLine, written, writerRun}
+
+-- the letter that a number stands for: two bits, and 32 or more for none
+unfoldable pub letterIn : ℕ → Letter
+letterIn n = cond (ltb n 32) (Bits n) Other
+
+-- a number for a letter or what is none
+pub record Reads (x n : ℕ) : Type 0 where
+  pub letter : letterBits x ≡ letterIn n
+  pub two-bits : n % 32 < 4
+  pub small : n < 64
 
 -- the byte of four letters, or nothing
 unfoldable pub spelled : ℕ → ℕ → ℕ → ℕ → Spelled

@@ -2,10 +2,10 @@ ghost use mathlib.Core.Path.{_≡_};
 ghost use mathlib.Core.Bool.{true};
 ghost use Prim.Native.Nat.{_+_, _*_, _<_};
 ghost use lib.ListN.{length};
-ghost use Rattle.strand.specs.Letters.{letterOf, letterBits, allLetters, byteBases, byteLetters, wordLetters, lettersWord};
-ghost use Rattle.strand.specs.Loops.{spelled};
+ghost use Rattle.strand.specs.Letters.{letterOf, allLetters, byteBases, byteLetters, wordLetters, lettersWord};
+ghost use Rattle.strand.specs.Loops.{Reads, spelled};
 
-// The two bits of a letter, or that it is none.
+// The two bits of a letter, or that it is none. Contracts speak of it; the code has both in one number.
 pub enum Letter {
     Bits(u8),
     Other,
@@ -17,15 +17,19 @@ pub enum Spelled {
     Nothing,
 }
 
-// A, C, G and T by their numbers; every other number is no letter. The numbers themselves have the two bits: an arm for each
-// letter would be a jump that no processor can foresee.
-pub fn letter_bits(x: u8) -> Letter
-    ensures { λ r. ⌜ r ≡ letterBits x ⌝ }
+// 00 is A, 01 C, 10 G, 11 T; a number that is no letter gives 32 or 33. There are two such numbers, and those between the letters
+// are listed, so that this is a look-up in a table: with one number for none it is a jump for each letter, which no processor
+// can foresee.
+fn letter_bits(x: u8) -> u8
+    ensures { λ r. ⌜ Reads x r ⌝ }
 {
-    let bits = ((x >> 1) ^ (x >> 2)) & 3;
     match x {
-        65 | 67 | 71 | 84 => Letter::Bits(bits),
-        0..=64 | 66 | 68..=70 | 72..=83 | 85..=255 => Letter::Other,
+        65 => 0,
+        67 => 1,
+        71 => 2,
+        84 => 3,
+        66 | 68 | 70 | 78 => 32,
+        0..=64 | 69 | 72..=77 | 79..=83 | 85..=255 => 33,
     }
 }
 
@@ -86,22 +90,18 @@ fn bases_byte(a: u8, b: u8, c: u8, d: u8) -> u8
     ((a * 4 + b) * 4 + c) * 4 + d
 }
 
+// One test for the four: two bits each add up to 12 at most, and one that is no letter to 32 or more.
 fn read_byte(a: u8, b: u8, c: u8, d: u8) -> Spelled
     ensures { λ r. ⌜ r ≡ spelled a b c d ⌝ }
 {
-    let Letter::Bits(w) = letter_bits(a) else {
-        return Spelled::Nothing;
-    };
-    let Letter::Bits(x) = letter_bits(b) else {
-        return Spelled::Nothing;
-    };
-    let Letter::Bits(y) = letter_bits(c) else {
-        return Spelled::Nothing;
-    };
-    let Letter::Bits(z) = letter_bits(d) else {
-        return Spelled::Nothing;
-    };
-    Spelled::Byte(bases_byte(w, x, y, z))
+    let w = letter_bits(a);
+    let x = letter_bits(b);
+    let y = letter_bits(c);
+    let z = letter_bits(d);
+    if w + x + y + z < 32 {
+        return Spelled::Byte(bases_byte(w, x, y, z));
+    }
+    Spelled::Nothing
 }
 
 // Whether all of a read are letters, and the word that they spell. It stops at the first that is none.
