@@ -35,10 +35,7 @@ letter-cases false false false false = lit< tt
 -- a letter is two bits
 base-lt : (x : ℕ) → bitsOr0 (letterBits x) < 4
 unfolding letterBits
-base-lt x = letter-cases (eqb x 65) (eqb x 67) (eqb x 71) (eqb x 84)
-
-pub bits-lt : (x v : ℕ) → letterBits x ≡ Bits v → v < 4
-bits-lt x v e = rw e at (base-lt x)
+base-lt x = letter-cases (eqb x _) (eqb x _) (eqb x _) (eqb x _)
 
 -- the letter of a base spells it
 base-back : (base : ℕ) → base < 4 → letterBits (letterOf base) ≡ Bits base
@@ -53,9 +50,8 @@ pub pair-back : (n : ℕ) → letterBits (letterOf (n % 4)) ≡ Bits (n % 4)
 pair-back n = base-back (n % 4) (pair-lt n)
 
 -- a letter is that of its base
-letter-cases-back : (x : ℕ) (p q r s : Bool) → (p ≡ true → x ≡ 65) → (q ≡ true → x ≡ 67) → (r ≡ true → x ≡ 71) → (s ≡ true → x ≡ 84)
+letter-cases-back : (x : ℕ) (p q r s : Bool) → (p ≡ true → x ≡ letterOf 0) → (q ≡ true → x ≡ letterOf 1) → (r ≡ true → x ≡ letterOf 2) → (s ≡ true → x ≡ letterOf 3)
     → (let l = cond p (Bits 0) (cond q (Bits 1) (cond r (Bits 2) (cond s (Bits 3) Other))) in isBits l ≡ true → letterOf (bitsOr0 l) ≡ x)
-unfolding letterOf
 letter-cases-back x true q r s a c g t h = sym (a refl)
 letter-cases-back x false true r s a c g t h = sym (c refl)
 letter-cases-back x false false true s a c g t h = sym (g refl)
@@ -63,8 +59,8 @@ letter-cases-back x false false false true a c g t h = sym (t refl)
 letter-cases-back x false false false false a c g t h = cc
 
 letter-back : (x : ℕ) → isBits (letterBits x) ≡ true → letterOf (bitsOr0 (letterBits x)) ≡ x
-unfolding letterBits
-letter-back x = letter-cases-back x (eqb x 65) (eqb x 67) (eqb x 71) (eqb x 84) (eqb-true x 65) (eqb-true x 67) (eqb-true x 71) (eqb-true x 84)
+unfolding letterBits letterOf
+letter-back x = letter-cases-back x _ _ _ _ (eqb-true x _) (eqb-true x _) (eqb-true x _) (eqb-true x _)
 
 -- ---- four letters
 

@@ -5,7 +5,7 @@ ghost use lib.ListN.{length};
 ghost use Rattle.strand.specs.Letters.{letterOf, allLetters, byteBases, byteLetters, wordLetters, lettersWord};
 ghost use Rattle.strand.specs.Loops.{Reads, spelled};
 
-// The two bits of a letter, or that it is none. Contracts speak of it; the code has both in one number.
+// The two bits of a letter, or that it is none. Contracts speak of it; `letter_bits` has both in one number.
 pub enum Letter {
     Bits(u8),
     Other,
@@ -17,9 +17,9 @@ pub enum Spelled {
     Nothing,
 }
 
-// 00 is A, 01 C, 10 G, 11 T; a number that is no letter gives 32 or 33. There are two such numbers, and those between the letters
-// are listed, so that this is a look-up in a table: with one number for none it is a jump for each letter, which no processor
-// can foresee.
+// 00 is A, 01 C, 10 G, 11 T, and every other number is no letter: 32 or 33. Two such numbers, one of them for B, D, F and N, have
+// the compiler make a table of the twenty numbers from A to T. With one number for all of them, and with an enum, it makes a jump
+// for each letter, which no processor can foresee.
 fn letter_bits(x: u8) -> u8
     ensures { λ r. ⌜ Reads x r ⌝ }
 {
@@ -90,7 +90,7 @@ fn bases_byte(a: u8, b: u8, c: u8, d: u8) -> u8
     ((a * 4 + b) * 4 + c) * 4 + d
 }
 
-// One test for the four: two bits each add up to 12 at most, and one that is no letter to 32 or more.
+// One test for all four: letters add up to 12 at most, and one that is none to 32 at least.
 fn read_byte(a: u8, b: u8, c: u8, d: u8) -> Spelled
     ensures { λ r. ⌜ r ≡ spelled a b c d ⌝ }
 {
