@@ -8,3 +8,4 @@ pub mod Picking
 pub mod Bitmap
 pub mod XorFront
 pub mod Payload
+pub mod Lanes
