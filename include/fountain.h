@@ -1,4 +1,4 @@
-/* Card reader, writer, read check, shelf and restorer of a DNA-storage pool, for C and C++ hosts.
+/* Card reader, writer, read check, store (the hall's shelf) and restorer of a DNA-storage pool, for C and C++ hosts.
  *
  * Link libcapi.a and libstrand.a: fountain_check_read is in libstrand.a, the other four are in libcapi.a. The two have
  * no name in common, and together need nothing but memcpy and memset.
@@ -103,13 +103,13 @@ uint32_t fountain_check_read(uint32_t F, uint8_t L, uint8_t R, uint8_t m, uint16
                              const uint8_t *read, size_t read_len,
                              uint8_t *out, size_t out_len);
 
-/* Offers one read to a shelf. An empty shelf is a buffer of any length and bytes with count 0.
+/* Offers one read to a store. An empty store is a buffer of any length and bytes with count 0.
  *
  *   F .. weights_len  as above
- *   store, store_len  the shelf: records from its start
+ *   store, store_len  the store: records from its start
  *   count             how many records it holds
  *   read, read_len    the letters of the read, n of them
- *   answer            lent for two numbers: what became of the read (0 accepted: its record was appended; 1 repeat: the shelf
+ *   answer            lent for two numbers: what became of the read (0 accepted: its record was appended; 1 repeat: the store
  *                     has its record already), and the count to hand to the next call
  *
  * Returns 0 and fills answer. If the read was accepted, the 4 + L bytes of store from count * (4 + L) on hold its record, and
@@ -126,10 +126,10 @@ uint32_t fountain_store(uint32_t F, uint8_t L, uint8_t R, uint8_t m, uint16_t lo
                         const uint8_t *read, size_t read_len,
                         uint64_t answer[2]);
 
-/* Restores what the records of a shelf give of a file.
+/* Restores what the records of a store give of a file.
  *
  *   F .. weights_len  as above
- *   store, store_len  the shelf, of which nothing is written
+ *   store, store_len  the store, of which nothing is written
  *   count             how many records it holds
  *   file, file_len    lent for the segments, at least K * L bytes
  *   marks, marks_len  lent for the marks, at least K bytes
@@ -143,7 +143,7 @@ uint32_t fountain_store(uint32_t F, uint8_t L, uint8_t R, uint8_t m, uint16_t lo
  *
  *    2, 3, 4  as above
  *   14  count * (4 + L) is more than store_len
- *   17  a record of the shelf has seed 0
+ *   17  a record of the store has seed 0
  *   18  file is shorter than K * L bytes, or marks than K
  *    8  list has fewer than D places */
 uint32_t fountain_restore(uint32_t F, uint8_t L, uint8_t R, uint8_t m, uint16_t lo, uint16_t hi,

@@ -9,8 +9,7 @@ use borrow.Author.Tests.{eqb-true}
 use lib.Dec.{eqb, lit<}
 use lib.ListN.{length, getD}
 use Rattle.field.specs.Bytes.{AllBytes}
-use Rattle.strand.specs.declared.letters.Letter.the-variants.{Bits, Other}
-use Rattle.strand.specs.Letters.{letterOf, letterBits, isBits, bitsOr0, allLetters, byteBases, wordBases, byteLetters, wordLetters, lettersByte, lettersWord}
+use Rattle.strand.specs.Letters.{Bits, Other, letterOf, letterBits, isBits, bitsOr0, allLetters, byteBases, wordBases, byteLetters, wordLetters, lettersByte, lettersWord}
 
 -- ---- one letter
 

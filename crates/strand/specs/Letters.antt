@@ -3,12 +3,15 @@ use mathlib.Core.Bool.{Bool, true, false, cond, _&&_}
 use mathlib.Core.List.{List, [], _∷_, _++_}
 use Prim.Native.Nat.{ℕ, _+_, _*_, _/_, _%_}
 use lib.Dec.{eqb}
-use Rattle.strand.specs.declared.letters.Letter.{Letter}
-use Rattle.strand.specs.declared.letters.Letter.the-variants.{Bits, Other}
 
 -- "00 is A, 01 C, 10 G, 11 T": the letter of a base
 unfoldable pub letterOf : ℕ → ℕ
 letterOf base = cond (eqb base 0) 65 (cond (eqb base 1) 67 (cond (eqb base 2) 71 84))
+
+-- what a letter is: the two bits of a base, or none
+pub data Letter : Type 0 where
+  Bits : ℕ → Letter
+  Other : Letter
 
 -- the base of a letter; "any other letter, N and small letters included, is refused"
 unfoldable pub letterBits : ℕ → Letter

@@ -10,13 +10,11 @@ use Rattle.droplet.specs.declared.card.Card.{Card}
 use Rattle.droplet.specs.PoolCard.{strandBytes, segmentCount, weightCount, weightSum, strandBases}
 use Rattle.droplet.specs.declared.card.Plan.{Plan}
 use Rattle.droplet.specs.Questions.{cardRefusal}
-use Rattle.strand.specs.declared.letters.Letter.{Letter}
-use Rattle.strand.specs.declared.letters.Letter.the-variants.{Bits, Other}
 use Rattle.strand.specs.declared.letters.Spelled.{Spelled}
 use Rattle.strand.specs.declared.letters.Spelled.the-variants.{Byte, Nothing}
 use Rattle.strand.specs.declared.screen.Inside.{Inside}
 use Rattle.strand.specs.declared.screen.Runs.{Runs}
-use Rattle.strand.specs.Letters.{letterBits, allLetters, lettersByte}
+use Rattle.strand.specs.Letters.{Letter, Bits, Other, letterBits, allLetters, lettersByte}
 use Rattle.strand.specs.declared.writer.Run.{Run}
 use Rattle.strand.specs.Screen.{byteGc, screenPasses}
 use Rattle.strand.specs.Writer.{seedWord, strandLine, written, writerRun}

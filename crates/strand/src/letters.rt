@@ -5,21 +5,15 @@ ghost use lib.ListN.{length};
 ghost use Rattle.strand.specs.Letters.{letterOf, allLetters, byteBases, byteLetters, wordLetters, lettersWord};
 ghost use Rattle.strand.specs.Loops.{Reads, spelled};
 
-// The two bits of a letter, or that it is none. Contracts speak of it; `letter_bits` has both in one number.
-pub enum Letter {
-    Bits(u8),
-    Other,
-}
-
 // The byte that four letters spell, or that one of them is no letter.
 pub enum Spelled {
     Byte(u8),
     Nothing,
 }
 
-// 00 is A, 01 C, 10 G, 11 T, and every other number is no letter: 32 or 33. Two such numbers, one of them for B, D, F and N, have
-// the compiler make a table of the twenty numbers from A to T. With one number for all of them, and with an enum, it makes a jump
-// for each letter, which no processor can foresee.
+// 00 is A, 01 C, 10 G, 11 T, and every other number is no letter: 32 or 33. B, D, F and N have a number of their own so that eight of
+// the twenty numbers from A to T have an arm, which is enough for the compiler to make a table of them. With one number for all that
+// are none, or with an enum, it makes a jump for each letter, which no processor can foresee.
 fn letter_bits(x: u8) -> u8
     ensures { λ r. ⌜ Reads x r ⌝ }
 {

@@ -7,9 +7,8 @@ use borrow.Author.Needs.{needs}
 use borrow.Author.Tests.{lt-ltb, le-ltb, ltb-true, ltb-false}
 use lib.Dec.{ltb}
 use Rattle.field.proofs.Tests.{either}
-use Rattle.strand.specs.declared.letters.Letter.the-variants.{Bits, Other}
 use Rattle.strand.specs.declared.letters.Spelled.the-variants.{Byte, Nothing}
-use Rattle.strand.specs.Letters.{letterBits, allLetters, lettersByte}
+use Rattle.strand.specs.Letters.{Bits, Other, letterBits, allLetters, lettersByte}
 use Rattle.strand.specs.Loops.{letterIn, Reads, spelled}
 use Rattle.strand.proofs.letters.read_byte.Statement.{statement}
 use Rattle.strand.proofs.letters.read_byte.Tie as tie
