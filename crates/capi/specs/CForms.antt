@@ -11,7 +11,7 @@ use Rattle.droplet.specs.PoolCard.{weightCount}
 use Rattle.droplet.specs.Questions.{CardRead}
 use Rattle.strand.specs.declared.writer.Stop.{Stop}
 use Rattle.strand.specs.declared.writer.Stop.the-variants.{Done, Spent}
-use Rattle.strand.specs.Writer.{Wrote, writerAnswer, WriterLeaves}
+use Rattle.strand.specs.Writer.{Written, writerAnswer, WriterLeaves}
 use Rattle.decoder.specs.Store.{Stored, storeRead, keptAnswer, keptBuffer}
 use Rattle.decoder.specs.Restorer.{Restored, restore, restoreRefusal, endAnswer, endState}
 
@@ -30,9 +30,9 @@ stopNumber Done = 0
 stopNumber Spent = 1
 
 -- the writer: the stop, made, tried and the next seed
-unfoldable pub writeReturned : List ℕ → Wrote → Returned
-writeReturned answer (Wrote.wrote stop made tried next) = returned 0 (stopNumber stop ∷ (made ∷ (tried ∷ (next ∷ []))))
-writeReturned answer (Wrote.refusal n) = returned n answer
+unfoldable pub writeReturned : List ℕ → Written → Returned
+writeReturned answer (Written.written stop made tried next) = returned 0 (stopNumber stop ∷ (made ∷ (tried ∷ (next ∷ []))))
+writeReturned answer (Written.refusal n) = returned n answer
 
 -- the writer's C form: number and answer, and buffer and number list at exit
 pub record WriteForm (c : Card) (weights file : List ℕ) (start wanted budget : ℕ) (out list answer : List ℕ) (n : ℕ)

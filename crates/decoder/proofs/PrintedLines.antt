@@ -22,7 +22,7 @@ use Rattle.droplet.specs.Questions.{cardRefusal}
 use Rattle.strand.specs.declared.writer.WriteAnswer.the-variants as writer
 use Rattle.strand.specs.Letters.{wordLetters}
 use Rattle.strand.specs.Screen.{screenPasses}
-use Rattle.strand.specs.Writer.{seedWord, strandLine, Written, written, writerRun, passing, passingFirst, strandLines, writerRefusal, Wrote, wrote, refusal, writeAnswer, runAnswer, runText}
+use Rattle.strand.specs.Writer.{seedWord, strandLine, RunEnd, runEnd, writerRun, passing, passingFirst, strandLines, writerRefusal, Written, written, refusal, writeAnswer, runAnswer, runText}
 use Rattle.strand.proofs.Spelling.{letters-length}
 use Rattle.strand.proofs.SeedWords.{word-length}
 use Rattle.strand.proofs.Runs.{run-facts}
@@ -51,8 +51,8 @@ scheduled zero seed h = tt
 scheduled (suc n) seed h = (h, scheduled n (seedAfter seed) (step-positive seed (h .0) (h .1), step-lt seed))
 
 -- how many strands an answer says were made
-abbrev madeBy : Wrote → ℕ
-madeBy (wrote stop made tried next) = made
+abbrev madeBy : Written → ℕ
+madeBy (written stop made tried next) = made
 madeBy (refusal n) = 0
 
 module _ (c : Card) (ws file : List ℕ) where
@@ -90,9 +90,9 @@ module _ (c : Card) (ws file : List ℕ) where
       ∙ line-at seeds rest i (omega arith)
 
   -- of what a run wrote
-  run-line : (start wanted budget : ℕ) → IsSeed start → (w : Written) → writerRun c ws file start wanted budget ≡ w → (rest : List ℕ) (i : ℕ)
+  run-line : (start wanted budget : ℕ) → IsSeed start → (w : RunEnd) → writerRun c ws file start wanted budget ≡ w → (rest : List ℕ) (i : ℕ)
       → i < madeBy (runAnswer w) → SeedOf c ws file (take (strandBases c) (drop (i * (strandBases c + 1)) (runText w ++ rest)))
-  run-line start wanted budget s (written stop made tried next text) e rest i b =
+  run-line start wanted budget s (runEnd stop made tried next text) e rest i b =
       let facts = run-facts c ws file start wanted budget stop made tried next text e in
       let seeds = passingFirst c ws file start tried in
       let h : i < length seeds = subst (λ n. i < n) (facts .counts) b in

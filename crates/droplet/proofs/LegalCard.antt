@@ -3,17 +3,18 @@ use mathlib.Core.Path.{_≡_, refl}
 use mathlib.Core.Bool.{Bool, true, false, _&&_, _||_}
 use mathlib.Core.List.{List}
 use mathlib.Core.Logic.{inl, inr}
-use Prim.Native.Nat.{ℕ, _+_, _-_, _*_, _%_, _≤_, _<_}
+use Prim.Native.Nat.{ℕ, suc, _+_, _-_, _*_, _%_, _≤_, _<_}
 use native.Mathlib.Nat.{div-mul-le-self, lt-div-mul-add, le-div-iff-mul-le}
 use native.Mathlib.Omega.{arith}
 use lib.Dec.{eqb, leb}
 use lib.ListN.{length}
 use borrow.Author.Tests.{leb-true, eqb-true}
 use Rattle.field.specs.CheckBytes.{CheckCount}
+use Rattle.field.proofs.Tests.{either}
 use Rattle.droplet.specs.declared.card.Card.{Card}
 use Rattle.droplet.specs.PoolCard.{weightCount, weightSum, segmentCount, strandBytes}
 use Rattle.droplet.specs.Questions.{within, sizesRight, limitsRight, weightsRight, cardRefusal}
-use Rattle.droplet.proofs.Conjunctions.{and-true, within-true, said-yes}
+use Rattle.droplet.proofs.Conjunctions.{and-true, within-true}
 
 -- ---- question 2
 
@@ -151,10 +152,21 @@ pub record Legal (c : Card) (ws : List ℕ) : Type 0 where
   pub limits : Limits c
   pub weights : Weights c ws
 
+no-number : {n : ℕ} → suc n ≡ 0 → ⊥
+no-number e = omega arith
+
 pub legal : (c : Card) (ws : List ℕ) → cardRefusal c ws ≡ 0 → Legal c ws
 unfolding cardRefusal
 legal c ws e =
-    let two = said-yes (sizesRight c) 1 _ e in
-    let three = said-yes (limitsRight c) 2 _ (two .1) in
-    let four = said-yes (weightsRight c ws) 3 0 (three .1) in
-    record { sizes = sizes-true c (two .0); limits = limits-true c (three .0); weights = weights-true c ws (four .0) }
+    elim (either (sizesRight c)) [
+      | inl s ↦
+          elim (either (limitsRight c)) [
+            | inl l ↦
+                elim (either (weightsRight c ws)) [
+                  | inl w ↦ record { sizes = sizes-true c s; limits = limits-true c l; weights = weights-true c ws w }
+                  | inr w ↦ absurd (no-number (simp (s, l, w) at e))
+                ]
+            | inr l ↦ elim (either (weightsRight c ws)) [ inl w ↦ absurd (no-number (simp (s, l, w) at e)) | inr w ↦ absurd (no-number (simp (s, l, w) at e)) ]
+          ]
+      | inr s ↦ absurd (no-number (simp s at e))
+    ]

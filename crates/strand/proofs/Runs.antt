@@ -17,19 +17,19 @@ use Rattle.droplet.specs.declared.card.Card.{Card}
 use Rattle.strand.specs.declared.writer.Stop.{Stop}
 use Rattle.strand.specs.declared.writer.Stop.the-variants.{Done, Spent}
 use Rattle.strand.specs.Screen.{screenPasses}
-use Rattle.strand.specs.Writer.{seedWord, strandLine, Written, written, writeFrom, writerRun, passing, passingFirst, strandLines, RunFacts, continuing}
+use Rattle.strand.specs.Writer.{seedWord, strandLine, RunEnd, runEnd, writeFrom, writerRun, passing, passingFirst, strandLines, RunFacts, continuing}
 
 module _ (c : Card) (ws file : List ℕ) where
   -- ---- the clauses
 
   pub run-done : (wanted left seed made tried : ℕ) (text : List ℕ) → made ≡ wanted
-      → writeFrom c ws file wanted left seed made tried text ≡ written Done made tried seed text
+      → writeFrom c ws file wanted left seed made tried text ≡ runEnd Done made tried seed text
   unfolding writeFrom
   run-done wanted zero seed made tried text e = rw (eq-eqb made wanted e)
   run-done wanted (suc left) seed made tried text e = rw (eq-eqb made wanted e)
 
   pub run-spent : (wanted seed made tried : ℕ) (text : List ℕ) → (made ≡ wanted → ⊥)
-      → writeFrom c ws file wanted zero seed made tried text ≡ written Spent made tried seed text
+      → writeFrom c ws file wanted zero seed made tried text ≡ runEnd Spent made tried seed text
   unfolding writeFrom
   run-spent wanted seed made tried text n = rw (ne-eqb made wanted n)
 
@@ -97,9 +97,9 @@ module _ (c : Card) (ws file : List ℕ) where
       ]
 
   -- a run with b seeds more, given how it ended without them
-  more : ℕ → ℕ → Written → Written
-  more wanted b (written Done made tried next text) = written Done made tried next text
-  more wanted b (written Spent made tried next text) = writeFrom c ws file wanted b next made tried text
+  more : ℕ → ℕ → RunEnd → RunEnd
+  more wanted b (runEnd Done made tried next text) = runEnd Done made tried next text
+  more wanted b (runEnd Spent made tried next text) = writeFrom c ws file wanted b next made tried text
 
   run-more : (wanted a b seed made tried : ℕ) (text : List ℕ)
       → writeFrom c ws file wanted (a + b) seed made tried text ≡ more wanted b (writeFrom c ws file wanted a seed made tried text)
@@ -142,8 +142,8 @@ module _ (c : Card) (ws file : List ℕ) where
   lines-append [] b = refl
   lines-append (s ∷ a) b = ap (_++_ (strandLine (seedWord c ws file s))) (lines-append a b) ∙ sym (append-assoc (strandLine (seedWord c ws file s)) _ _)
 
-  Facts : ℕ → ℕ → ℕ → Written → Type 0
-  Facts start wanted budget (written stop made tried next text) = RunFacts c ws file start wanted budget stop made tried next text
+  Facts : ℕ → ℕ → ℕ → RunEnd → Type 0
+  Facts start wanted budget (runEnd stop made tried next text) = RunFacts c ws file start wanted budget stop made tried next text
 
   -- the start in front of a run from the seed after it
   module _ (start w wanted budget : ℕ) (sum : length (front start) + w ≡ wanted) (some : 0 < wanted) where
@@ -154,10 +154,10 @@ module _ (c : Card) (ws file : List ℕ) where
     earlier tried f (suc t) h =
         rw (front-cons start (seedsFrom t (seedAfter start)), length-append) (omega (arith, f t (omega arith)))
 
-    in-front : (r : Written) → Facts (seedAfter start) w budget r
+    in-front : (r : RunEnd) → Facts (seedAfter start) w budget r
         → Facts start wanted (suc budget) (continuing (length (front start)) 1 (strandLines c ws file (front start)) r)
     unfolding Facts seedsFrom iterate
-    in-front (written stop made tried next text) f =
+    in-front (runEnd stop made tried next text) f =
         let e : 1 + tried ≡ suc tried = omega arith in
         let all = front-cons start (seedsFrom tried (seedAfter start)) in
         rw e (record {
@@ -206,14 +206,14 @@ module _ (c : Card) (ws file : List ℕ) where
       ]
 
   pub run-facts : (start wanted budget : ℕ) (stop : Stop) (made tried next : ℕ) (text : List ℕ)
-      → writerRun c ws file start wanted budget ≡ written stop made tried next text
+      → writerRun c ws file start wanted budget ≡ runEnd stop made tried next text
       → RunFacts c ws file start wanted budget stop made tried next text
   unfolding Facts
   run-facts start wanted budget stop made tried next text e = subst (Facts start wanted budget) e (ran budget start wanted)
 
   -- a run that was spent, resumed at its next seed with b seeds more, is the run over both budgets
   pub resumed : (start wanted a b made tried next : ℕ) (text : List ℕ)
-      → writerRun c ws file start wanted a ≡ written Spent made tried next text
+      → writerRun c ws file start wanted a ≡ runEnd Spent made tried next text
       → writerRun c ws file start wanted (a + b) ≡ continuing made tried text (writerRun c ws file next (wanted - made) b)
   unfolding writerRun more
   resumed start wanted a b made tried next text e =

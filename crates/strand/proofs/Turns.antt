@@ -13,7 +13,7 @@ use Rattle.droplet.specs.declared.card.Card.{Card}
 use Rattle.droplet.specs.PoolCard.{weightCount, strandBases}
 use Rattle.strand.specs.declared.writer.Stop.{Stop}
 use Rattle.strand.specs.declared.writer.Stop.the-variants.{Done, Spent}
-use Rattle.strand.specs.Writer.{seedWord, strandLine, written, writeFrom, writerRun}
+use Rattle.strand.specs.Writer.{seedWord, strandLine, runEnd, writeFrom, writerRun}
 use Rattle.strand.specs.Loops.{withText, Tried, Ran}
 use Rattle.strand.proofs.Runs.{run-done, run-spent, run-pass, run-fail}
 use Rattle.strand.proofs.Lines.{line-length, text-taken, text-dropped}
@@ -48,10 +48,10 @@ module _ {c : Card} {ws file : List ℕ} {start wanted budget : ℕ} {out₀ lis
 
   module _ {out list : List ℕ} {seed made tried at : ℕ} (now : Stands c ws file start wanted budget out₀ list₀ out list seed made tried at) where
     -- the two ways in which it stops
-    ended : (stop : Stop) → writerRun c ws file start wanted budget ≡ written stop made tried seed (take at out)
+    ended : (stop : Stop) → writerRun c ws file start wanted budget ≡ runEnd stop made tried seed (take at out)
         → Ran c ws file start wanted budget (record { stop = stop; made = made; tried = tried; next = seed }) out₀ list₀ out list
     ended stop e = record {
-      ends = e ∙ ap (λ k. written stop made tried seed (take k out)) (now .place);
+      ends = e ∙ ap (λ k. runEnd stop made tried seed (take k out)) (now .place);
       rest = rw (now .place) at (now .rest);
       keeps = now .keeps;
     }

@@ -17,7 +17,7 @@ use Rattle.strand.specs.declared.screen.Runs.{Runs}
 use Rattle.strand.specs.Letters.{Letter, Bits, Other, letterBits, allLetters, lettersByte}
 use Rattle.strand.specs.declared.writer.Run.{Run}
 use Rattle.strand.specs.Screen.{byteGc, screenPasses}
-use Rattle.strand.specs.Writer.{seedWord, strandLine, written, writerRun}
+use Rattle.strand.specs.Writer.{seedWord, strandLine, runEnd, writerRun}
 
 -- the letter that a number stands for: two bits, and 32 or more for none
 unfoldable pub letterIn : ℕ → Letter
@@ -118,6 +118,6 @@ pub record Tried (c : Card) (weights file : List ℕ) (seed at : ℕ) (passed : 
 -- the run ended so, with its text at the front of the buffer and the rest of the buffer as it was
 pub record Ran (c : Card) (weights file : List ℕ) (start wanted budget : ℕ) (run : Run) (out list out′ list′ : List ℕ) : Type 0 where
   pub ends : writerRun c weights file start wanted budget
-      ≡ written (run .stop) (run .made) (run .tried) (run .next) (take (run .made * (strandBases c + 1)) out′)
+      ≡ runEnd (run .stop) (run .made) (run .tried) (run .next) (take (run .made * (strandBases c + 1)) out′)
   pub rest : drop (run .made * (strandBases c + 1)) out′ ≡ drop (run .made * (strandBases c + 1)) out
   pub keeps : drop (weightCount weights) list′ ≡ drop (weightCount weights) list

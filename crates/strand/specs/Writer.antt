@@ -28,22 +28,22 @@ abbrev pub strandLine : List ℕ → List ℕ
 strandLine word = wordLetters word ++ (10 ∷ [])
 
 -- how a run ended, with all that it wrote
-pub data Written : Type 0 where
-  written : Stop → ℕ → ℕ → ℕ → List ℕ → Written
+pub data RunEnd : Type 0 where
+  runEnd : Stop → ℕ → ℕ → ℕ → List ℕ → RunEnd
 
 -- the run from a seed on, with `left` seeds of the budget, after `made` and `tried`, with `text` written:
 -- "done when made = wanted, otherwise spent when tried = budget; done comes first"
-unfoldable pub writeFrom : Card → List ℕ → List ℕ → ℕ → ℕ → ℕ → ℕ → ℕ → List ℕ → Written
+unfoldable pub writeFrom : Card → List ℕ → List ℕ → ℕ → ℕ → ℕ → ℕ → ℕ → List ℕ → RunEnd
 writeFrom c weights file wanted zero seed made tried text =
-    cond (eqb made wanted) (written Done made tried seed text) (written Spent made tried seed text)
+    cond (eqb made wanted) (runEnd Done made tried seed text) (runEnd Spent made tried seed text)
 writeFrom c weights file wanted (suc left) seed made tried text =
-    cond (eqb made wanted) (written Done made tried seed text)
+    cond (eqb made wanted) (runEnd Done made tried seed text)
     (cond (screenPasses c (seedWord c weights file seed))
     (writeFrom c weights file wanted left (seedAfter seed) (suc made) (suc tried) (text ++ strandLine (seedWord c weights file seed)))
     (writeFrom c weights file wanted left (seedAfter seed) made (suc tried) text))
 
 -- "Seeds are tried in schedule order, the start first"
-unfoldable pub writerRun : Card → List ℕ → List ℕ → ℕ → ℕ → ℕ → Written
+unfoldable pub writerRun : Card → List ℕ → List ℕ → ℕ → ℕ → ℕ → RunEnd
 writerRun c weights file start wanted budget = writeFrom c weights file wanted budget start 0 0 []
 
 -- the seeds of a list whose strands pass the screen, in their order
@@ -77,8 +77,8 @@ pub record RunFacts (c : Card) (weights file : List ℕ) (start wanted budget : 
   pub at-once : (t : ℕ) → t < tried → length (passingFirst c weights file start t) < wanted
 
 -- a run that goes on after `made`, `tried` and `text`, both taken as one run
-abbrev pub continuing : ℕ → ℕ → List ℕ → Written → Written
-continuing made tried text (written stop made′ tried′ next text′) = written stop (made + made′) (tried + tried′) next (text ++ text′)
+abbrev pub continuing : ℕ → ℕ → List ℕ → RunEnd → RunEnd
+continuing made tried text (runEnd stop made′ tried′ next text′) = runEnd stop (made + made′) (tried + tried′) next (text ++ text′)
 
 -- 5 to 8, of D and the lengths: "file length F? Start not 0? Wanted at most 1,000,000 and buffer at least wanted times (n+1)?
 -- Number list at least D long?"
@@ -95,22 +95,22 @@ writerRefusal c weights fileLength start wanted outLength listLength =
     (cardRefusal c weights)
 
 -- what the writer answers, by its cases: the stop, made, tried and the next seed, or the refusal number
-pub data Wrote : Type 0 where
-  wrote : Stop → ℕ → ℕ → ℕ → Wrote
-  refusal : ℕ → Wrote
+pub data Written : Type 0 where
+  written : Stop → ℕ → ℕ → ℕ → Written
+  refusal : ℕ → Written
 
-abbrev pub writeAnswer : WriteAnswer → Wrote
-writeAnswer (answer.Written run) = wrote (run .stop) (run .made) (run .tried) (run .next)
+abbrev pub writeAnswer : WriteAnswer → Written
+writeAnswer (answer.Written run) = written (run .stop) (run .made) (run .tried) (run .next)
 writeAnswer (answer.Refused n) = refusal n
 
-abbrev pub runAnswer : Written → Wrote
-runAnswer (written stop made tried next text) = wrote stop made tried next
+abbrev pub runAnswer : RunEnd → Written
+runAnswer (runEnd stop made tried next text) = written stop made tried next
 
-abbrev pub runText : Written → List ℕ
-runText (written stop made tried next text) = text
+abbrev pub runText : RunEnd → List ℕ
+runText (runEnd stop made tried next text) = text
 
 -- the answer, and "Bytes past made times (n+1) keep what they had"; a refusal changes nothing
-abbrev pub writerAnswer : Card → List ℕ → List ℕ → ℕ → ℕ → ℕ → ℕ → ℕ → Wrote
+abbrev pub writerAnswer : Card → List ℕ → List ℕ → ℕ → ℕ → ℕ → ℕ → ℕ → Written
 writerAnswer c weights file start wanted budget outLength listLength =
     let no = writerRefusal c weights (length file) start wanted outLength listLength in
     cond (eqb no 0) (runAnswer (writerRun c weights file start wanted budget)) (refusal no)

@@ -1,8 +1,7 @@
 -- `sizes_right` meets its contract: its tests are the definition's, in the same order. Assumes nothing.
-use mathlib.Core.Path.{_≡_, refl, sym, ap, _∙_}
+use mathlib.Core.Path.{_≡_, refl, sym, _∙_}
 use mathlib.Core.Bool.{_&&_}
 use mathlib.Core.Logic.{⊎-elim}
-use lib.Dec.{leb}
 use borrow.Author.Needs.{needs}
 use Rattle.droplet.specs.Questions.{sizesRight}
 use Rattle.droplet.proofs.Conjunctions.{and-then, and-else, and-true}
@@ -29,7 +28,7 @@ segment-count-requires c κs =
 
 returns : tie.Need-returns
 unfolding sizesRight
-returns c = and-then (checks (c .before .before)) (c .before .if3 .taken) (ap (λ k. leb k _) (c .segment-count .ensures))
+returns c = rw (sym (checks (c .before .before)) ∙ c .before .if3 .taken, c .segment-count .ensures)
 
 returns-2 : tie.Need-returns-2
 unfolding sizesRight
