@@ -11,3 +11,4 @@ pub mod Weights
 pub mod Parity
 pub mod Unique
 pub mod Syndromes
+pub mod Remainders

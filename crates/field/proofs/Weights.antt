@@ -14,7 +14,7 @@ unfoldable pub weighted : ℕ → List ℕ → ℕ
 weighted i [] = 0
 weighted i (b ∷ bs) = bitXor (timesPower (i * length bs) b) (weighted i bs)
 
-horner-weighted : (i acc : ℕ) (word : List ℕ) → horner i acc word ≡ bitXor (timesPower (i * length word) acc) (weighted i word)
+pub horner-weighted : (i acc : ℕ) (word : List ℕ) → horner i acc word ≡ bitXor (timesPower (i * length word) acc) (weighted i word)
 unfolding horner weighted timesPower
 horner-weighted i acc [] = sym (ap (λ (n : ℕ). bitXor (timesPower n acc) 0) (mul-zero i) ∙ xor-zero-r acc)
 horner-weighted i acc (b ∷ bs) =

@@ -1,73 +1,33 @@
--- `parity_four` meets its contract: a turn is one step of the long division by doublings, and what is left of the message takes
--- the remainder to the parity. Assumes nothing.
-use mathlib.Core.Path.{_≡_, refl, ap}
-use mathlib.Core.List.{[], _∷_, foldl}
-use Prim.Native.Nat.{ℕ, _-_, _≤_, zero-le}
+-- `parity_four` meets its contract: the tables are computed, and the remainder moved up four places is the parity. Assumes nothing.
+use mathlib.Core.Path.{refl, ap, _∙_}
+use mathlib.Core.List.{List}
+use Prim.Native.Nat.{ℕ}
 use native.Mathlib.Omega.{arith}
 use borrow.Author.Needs.{needs}
-use lib.Bits.{bitXor}
-use lib.ListN.{length, drop}
-use Rattle.field.specs.Bytes.{padded, xorLists}
-use Rattle.field.specs.CheckBytes.{double, remainderAfter, parity, multiple, byRoot, timesPower}
-use Rattle.field.proofs.Fold.{fold-turn, fold-done}
-use Rattle.field.proofs.Xor.{xors}
-use Rattle.field.proofs.Powers.{double-xor}
+use Rattle.field.specs.Bytes.{IsByte, padded, xorLists, fromBigEndian, toBigEndian}
+use Rattle.field.specs.CheckBytes.{parity, remainderAfter, multiple, byRoot, timesPower, double}
+use Rattle.field.specs.Shift.{shiftUp}
+use Rattle.field.specs.Loops.{halvesTable, atHalves, tableOf, upFour, upEight}
+use Rattle.field.proofs.ByteLists.{all-from}
+use Rattle.field.proofs.Remainders.{parity-by}
 use Rattle.field.proofs.check_bytes.parity_four.Statement.{statement}
 use Rattle.field.proofs.check_bytes.parity_four.Tie as tie
 
-abbrev Inv-loop : tie.InvT-loop
-Inv-loop message a₀ b₀ c₀ d₀ j₀ a b c d j =
-    (j ≤ length message) × (foldl (remainderAfter 4) (a ∷ b ∷ c ∷ d ∷ []) (drop j message) ≡ parity 4 message)
+remainder-of-requires : tie.Need-remainder-of-requires
+unfolding halvesTable tableOf upFour upEight fromBigEndian toBigEndian parity remainderAfter multiple byRoot xorLists timesPower double shiftUp
+remainder-of-requires c κs = (refl, refl)
 
-abbrev μ-loop : tie.MeasureT-loop
-μ-loop message a₀ b₀ c₀ d₀ j₀ a b c d j = length message - j
-
--- the multiple of the generator polynomial of degree 4, x^4 + 15 x^3 + 54 x^2 + 120 x + 64, by doublings
-module _ (a b c d x f2 f4 f8 f16 f32 f64 : ℕ) where
-  turn : f2 ≡ double (bitXor a x) → f4 ≡ double f2 → f8 ≡ double f4 → f16 ≡ double f8 → f32 ≡ double f16 → f64 ≡ double f32
-      → bitXor b (bitXor (bitXor (bitXor (bitXor a x) f2) f4) f8) ∷ bitXor c (bitXor (bitXor (bitXor f2 f4) f16) f32)
-      ∷ bitXor d (bitXor (bitXor (bitXor f8 f16) f32) f64) ∷ f64 ∷ []
-      ≡ remainderAfter 4 (a ∷ b ∷ c ∷ d ∷ []) x
-  unfolding remainderAfter multiple byRoot xorLists timesPower
-  turn e2 e4 e8 e16 e32 e64 = simp (e64, e32, e16, e8, e4, e2, double-xor, xors)
-
-loop-holds : tie.Need-loop-holds Inv-loop μ-loop
-unfolding parity
-loop-holds c = (zero-le, refl)
-
-loop-again : tie.Need-loop-again Inv-loop μ-loop
-loop-again c =
-    let one = c .before .before .before .before .before in
-    let l = one .before .before .before .loop in (
-      omega arith,
-      fold-turn (remainderAfter 4) _ _ _ 0 (l .j) (one .before .before .before .before .before .args .message .now) (omega arith)
-          (turn (l .a) (l .b) (l .c) (l .d) _ _ _ _ _ _ _ (one .times-root .ensures) (c .before .before .before .before .times-root2 .ensures)
-          (c .before .before .before .times-root3 .ensures) (c .before .before .times-root4 .ensures) (c .before .times-root5 .ensures)
-          (c .times-root6 .ensures)) (l .inv .1),
-    )
-
-returns : tie.Need-returns Inv-loop μ-loop
-unfolding padded
+returns : tie.Need-returns
+unfolding padded toBigEndian
 returns c =
-    let l = c .before .loop in
-    ap (padded 4)
-    (fold-done (remainderAfter 4) (l .a ∷ l .b ∷ l .c ∷ l .d ∷ []) _ (l .j) (c .before .before .before .args .message .now) (omega arith) (l .inv .1))
+    let r = c .before .before .remainder-of in
+    let s = c .before .before .before .before .before in
+    let m = s .before .args .message .now in
+    let table = remainder-of-requires (c .before .before .before) (r .lifetimes) .0 in
+    c .split .ensures
+    ∙ ap (padded 4)
+    (ap toBigEndian (c .before .at-halves .ensures ∙ ap (λ (t : List ℕ). atHalves 8 t (r .result)) table)
+    ∙ parity-by m (r .result) (all-from IsByte m 0 (λ k h. omega (arith, s .shared-slice-known .given k))) (r .ensures))
 
 pub parity-four-spec : {M : Type 1} → statement M
-parity-four-spec =
-    tie.close
-    (tie.spec
-    Inv-loop
-    μ-loop
-    loop-holds
-    (λ c. search needs)
-    (λ c κs. search needs)
-    (λ c κs. search needs)
-    (λ c κs. search needs)
-    (λ c κs. search needs)
-    (λ c κs. search needs)
-    (λ c κs. search needs)
-    (λ c. search needs)
-    (λ c. search needs)
-    loop-again
-    returns)
+parity-four-spec = tie.close (tie.spec remainder-of-requires (λ c κs. search needs) (λ c κs. search needs) returns)
