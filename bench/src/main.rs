@@ -244,6 +244,11 @@ fn run(job: &Job) -> Vec<Line> {
         rust,
     });
 
+    // the check bytes are gone from what the shelf and the restorer see, so one R is enough for them
+    if card.r == 4 {
+        return lines;
+    }
+
     // shelve
     let size = 4 + l;
     let mut filled = vec![0xEE; (strands + 1) * size + 5];
@@ -374,10 +379,12 @@ fn machine() -> String {
     )
 }
 
+#[allow(clippy::too_many_arguments)]
 fn job(
     name: &str,
     f: u32,
     l: u8,
+    r: u8,
     strands: u32,
     reads: usize,
     shelved_first: usize,
@@ -386,7 +393,7 @@ fn job(
     let card = Card {
         f,
         l,
-        r: 2,
+        r,
         m: 3,
         lo: 450,
         hi: 550,
@@ -410,27 +417,15 @@ fn main() {
     println!("shelving searches the shelf for the seed from its start, as document 01's interface asks, on both sides alike:");
     println!("its time grows with the square of the number of records");
     let mut jobs = Vec::new();
-    if wanted("001") {
-        jobs.push(job(
-            "document 001: 2,146,816 bytes, L 32",
-            2_146_816,
-            32,
-            72_000,
-            300_000,
-            0,
-            1,
-        ));
-    }
-    if wanted("limits") {
-        jobs.push(job(
-            "limits: 8,388,608 bytes, L 64",
-            8_388_608,
-            64,
-            140_000,
-            20_000,
-            139_000,
-            2,
-        ));
+    for r in [2, 4] {
+        if wanted("001") {
+            let name = format!("document 001: 2,146,816 bytes, L 32, R {r}");
+            jobs.push(job(&name, 2_146_816, 32, r, 72_000, 300_000, 0, 1));
+        }
+        if wanted("limits") {
+            let name = format!("limits: 8,388,608 bytes, L 64, R {r}");
+            jobs.push(job(&name, 8_388_608, 64, r, 140_000, 20_000, 139_000, 2));
+        }
     }
     for job in &jobs {
         println!("\n{}", job.name);
@@ -462,6 +457,7 @@ fn main() {
                 "",
                 k * 32,
                 32,
+                2,
                 strands,
                 4_000,
                 strands as usize - 1_000,

@@ -59,7 +59,7 @@ const fn table_of_doubles() -> [u8; 256] {
     t
 }
 
-// The multiples of the generator polynomial, its highest coefficient left out: f, f·3, f·2 of 1 3 2, and so on for four.
+// The multiples of the generator polynomial for R = 2, its highest coefficient left out: f·3, f·2 of 1 3 2.
 const fn table_of_two() -> [u16; 256] {
     let mut t = [0; 256];
     let mut f = 0;
@@ -72,8 +72,9 @@ const fn table_of_two() -> [u16; 256] {
     t
 }
 
-const fn table_of_four() -> [u32; 256] {
-    let mut t = [0; 256];
+// A byte's share in the remainder with four bytes behind it, and with one, two and three more: what makes a step of four bytes.
+const fn tables_of_four() -> [[u32; 256]; 4] {
+    let mut t = [[0; 256]; 4];
     let mut f = 0;
     while f < 256 {
         let a = f as u8;
@@ -83,8 +84,18 @@ const fn table_of_four() -> [u32; 256] {
         let e = double(d);
         let g = double(e);
         let h = double(g);
-        t[f] = u32::from_be_bytes([a ^ b ^ c ^ d, b ^ c ^ e ^ g, d ^ e ^ g ^ h, h]);
+        t[0][f] = u32::from_be_bytes([a ^ b ^ c ^ d, b ^ c ^ e ^ g, d ^ e ^ g ^ h, h]);
         f += 1;
+    }
+    let mut k = 1;
+    while k < 4 {
+        f = 0;
+        while f < 256 {
+            let before = t[k - 1][f];
+            t[k][f] = before << 8 ^ t[0][(before >> 24) as usize];
+            f += 1;
+        }
+        k += 1;
     }
     t
 }
@@ -94,7 +105,7 @@ static WORDS: [[u8; 4]; 256] = table_of_words();
 static GC: [u8; 256] = table_of_gc();
 static DOUBLES: [u8; 256] = table_of_doubles();
 static TWO: [u16; 256] = table_of_two();
-static FOUR: [u32; 256] = table_of_four();
+static FOUR: [[u32; 256]; 4] = tables_of_four();
 
 struct Plan {
     k: u32,
@@ -145,14 +156,26 @@ fn syndromes_zero(r: u8, word: &[u8]) -> bool {
         }
         return a | b == 0;
     }
-    let (mut a, mut b, mut c, mut d) = (0u8, 0u8, 0u8, 0u8);
-    for &x in word {
-        a ^= x;
-        b = DOUBLES[b as usize] ^ x;
-        c = DOUBLES[DOUBLES[c as usize] as usize] ^ x;
-        d = DOUBLES[DOUBLES[DOUBLES[d as usize] as usize] as usize] ^ x;
+    let (message, parity) = word.split_at(word.len() - 4);
+    parity_four(message).to_be_bytes() == parity
+}
+
+/// The four check bytes, four bytes of the message a step.
+#[inline(always)]
+fn parity_four(message: &[u8]) -> u32 {
+    let mut rest = 0u32;
+    let mut fours = message.chunks_exact(4);
+    for b in fours.by_ref() {
+        let x = rest ^ u32::from_be_bytes([b[0], b[1], b[2], b[3]]);
+        rest = FOUR[3][(x >> 24) as usize]
+            ^ FOUR[2][(x >> 16 & 255) as usize]
+            ^ FOUR[1][(x >> 8 & 255) as usize]
+            ^ FOUR[0][(x & 255) as usize];
     }
-    a | b | c | d == 0
+    for &b in fours.remainder() {
+        rest = rest << 8 ^ FOUR[0][((rest >> 24) as u8 ^ b) as usize];
+    }
+    rest
 }
 
 fn screen(card: &Card, word: &[u8]) -> bool {
@@ -372,10 +395,7 @@ pub fn write(
             }
             word[4 + l..6 + l].copy_from_slice(&rest.to_be_bytes());
         } else {
-            let mut rest = 0u32;
-            for &b in &word[..4 + l] {
-                rest = rest << 8 ^ FOUR[((rest >> 24) as u8 ^ b) as usize];
-            }
+            let rest = parity_four(&word[..4 + l]);
             word[4 + l..8 + l].copy_from_slice(&rest.to_be_bytes());
         }
         if screen(&card, &word[..size]) {

@@ -1,7 +1,8 @@
--- A word's remainder by the generator polynomial for R = 4, as a number: XOR, half bytes, and four or eight more bytes.
+-- A word's remainder by the generator polynomial for R = 4, as the number that its four bytes spell: one, four or eight more bytes
+-- give the next remainder, four and eight by tables of half bytes; and the remainder gives the word's syndromes and its parity.
 -- Assumes nothing.
 use mathlib.Core.Path.{_≡_, refl, sym, ap, ap₂, _∙_, subst}
-use mathlib.Core.List.{List, [], _∷_, _++_, append-nil}
+use mathlib.Core.List.{List, _∷_, _++_}
 use Prim.Native.Nat.{ℕ, zero, suc, _+_, _*_, _/_, _%_, _^_, _<_, _≤_}
 use native.Mathlib.Nat.{mod-lt}
 use native.Mathlib.Omega.{arith}
@@ -22,12 +23,12 @@ use Rattle.field.proofs.Weights.{horner-weighted, value-weighted}
 use Rattle.field.proofs.Parity.{parity-length, parity-bytes, parity-vanishes}
 use Rattle.field.proofs.Unique.{parity-only}
 
--- ---- a number's bytes
+-- ---- the value of a number's bytes
 
 part-xor : (k a b : ℕ) → bitXor a b / 2 ^ k % 2 ^ 8 ≡ bitXor (a / 2 ^ k % 2 ^ 8) (b / 2 ^ k % 2 ^ 8)
 part-xor k a b = ap (λ (v : ℕ). v % 2 ^ 8) (xor-shr a b k) ∙ xor-mod (a / 2 ^ k) (b / 2 ^ k) 8
 
-pub value-xor : (i a b : ℕ) → numberAt i (bitXor a b) ≡ bitXor (numberAt i a) (numberAt i b)
+value-xor : (i a b : ℕ) → numberAt i (bitXor a b) ≡ bitXor (numberAt i a) (numberAt i b)
 unfolding toBigEndian xorLists
 value-xor i a b =
     ap (horner i 0) (ap₂ _∷_ (part-xor 24 a b) (ap₂ _∷_ (part-xor 16 a b) (ap₂ _∷_ (part-xor 8 a b) (ap₂ _∷_ (xor-mod a b 8) refl))))
@@ -47,18 +48,19 @@ pub value-zero : (i : ℕ) → numberAt i 0 ≡ 0
 unfolding toBigEndian
 value-zero i = horner-zeros i 4
 
-pub spelled : (l : List ℕ) → length l ≡ 4 → AllBytes l → toBigEndian (fromBigEndian l) ≡ l
+-- four bytes spell a number that gives them back
+spelled : (l : List ℕ) → length l ≡ 4 → AllBytes l → toBigEndian (fromBigEndian l) ≡ l
 spelled l e h =
     ap (λ (m : List ℕ). toBigEndian (fromBigEndian m)) (four l e) ∙ from-to _ _ _ _ (subst (λ (m : List ℕ). AllBytes m) (four l e) h)
     ∙ sym (four l e)
 
--- ---- four more bytes
+-- ---- four or eight bytes behind it
 
-pub four-more : (i s x : ℕ) → horner i s (toBigEndian x) ≡ bitXor (timesPower (i * 4) s) (numberAt i x)
+four-more : (i s x : ℕ) → horner i s (toBigEndian x) ≡ bitXor (timesPower (i * 4) s) (numberAt i x)
 unfolding toBigEndian
 four-more i s x = horner-weighted i s (toBigEndian x) ∙ ap (bitXor (timesPower (i * 4) s)) (sym (value-weighted i (toBigEndian x)))
 
-pub four-value : (i x : ℕ) → i < 4 → numberAt i (upFour x) ≡ timesPower (i * 4) (numberAt i x)
+four-value : (i x : ℕ) → i < 4 → numberAt i (upFour x) ≡ timesPower (i * 4) (numberAt i x)
 unfolding upFour
 four-value i x h =
     let p = parity 4 (toBigEndian x) in
@@ -80,6 +82,7 @@ entry zero f k h = omega arith
 entry (suc n) f zero h = refl
 entry (suc n) f (suc k) h = entry n (λ m. f (suc m)) k (omega arith)
 
+-- the entry of half byte k at the value n
 half-entry : (f : ℕ → ℕ) (k n : ℕ) → k < 8 → n < 16 → getD (halvesTable f) (n + 16 * k) 0 ≡ f (n * 2 ^ (4 * k))
 unfolding halvesTable
 half-entry f k n hk hn =
@@ -88,6 +91,7 @@ half-entry f k n hk hn =
     entry 128 (λ (j : ℕ). f (j % 16 * 2 ^ (4 * (j / 16)))) (n + 16 * k) (omega arith)
     ∙ ap₂ (λ (a b : ℕ). f (a * 2 ^ (4 * b))) m d
 
+-- one half byte more of a number's lowest k
 low-halves : (k x : ℕ) → bitXor (x % 2 ^ (4 * k)) (x / 2 ^ (4 * k) % 16 * 2 ^ (4 * k)) ≡ x % 2 ^ (4 * suc k)
 low-halves k x =
     let n = x / 2 ^ (4 * k) % 16 in
@@ -95,7 +99,7 @@ low-halves k x =
     xor-comm (x % 2 ^ (4 * k)) (n * 2 ^ (4 * k)) ∙ xor-shifted n (4 * k) (x % 2 ^ (4 * k)) (mod-lt x (pow-pos (4 * k)))
     ∙ sym (mod-pow-add x 4 (4 * k)) ∙ ap (λ (w : ℕ). x % 2 ^ w) e
 
--- a map that multiplies the value at a^i does so by its table
+-- where a map multiplies the value at a^i by a power of the root, its table does so too
 module _ (i p : ℕ) (f : ℕ → ℕ) (law : (x : ℕ) → numberAt i (f x) ≡ timesPower p (numberAt i x)) where
   halves-value : (k x : ℕ) → k ≤ 8 → numberAt i (atHalves k (halvesTable f) x) ≡ timesPower p (numberAt i (x % 2 ^ (4 * k)))
   unfolding atHalves
@@ -119,7 +123,7 @@ eight-halves i x h = all-halves i (i * 4 + i * 4) upEight (λ y. eight-value i y
 
 -- ---- a turn of a loop
 
--- what is left of the word takes the value of the number to the word's
+-- what is left of the word from j on takes the number's values to the word's
 abbrev pub Goes : List ℕ → ℕ → ℕ → Type 0
 Goes word x j = (i : ℕ) → i < 4 → horner i (numberAt i x) (drop j word) ≡ valueAt i word
 

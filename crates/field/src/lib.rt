@@ -1,4 +1,5 @@
 // The lowest layer: bytes under XOR, the generator and its seed schedule, and the field of 256 elements.
 pub mod bytes;
 pub mod check_bytes;
+mod check_four;
 pub mod generator;

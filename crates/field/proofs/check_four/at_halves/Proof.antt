@@ -7,8 +7,8 @@ use lib.Bits.{bitXor, xor-zero-l}
 use lib.ListN.{getD}
 use Rattle.field.specs.Loops.{atHalves}
 use borrow.Author.Needs.{needs}
-use Rattle.field.proofs.check_bytes.at_halves.Statement.{statement}
-use Rattle.field.proofs.check_bytes.at_halves.Tie as tie
+use Rattle.field.proofs.check_four.at_halves.Statement.{statement}
+use Rattle.field.proofs.check_four.at_halves.Tie as tie
 
 -- the lowest half byte stands at the front of the table
 first : (table : List ℕ) (x : ℕ) → getD table (x % 16) 0 ≡ atHalves 1 table x

@@ -10,8 +10,8 @@ use Rattle.field.specs.Shift.{shiftUp}
 use Rattle.field.specs.Loops.{halvesTable, atHalves, tableOf, upFour, upEight}
 use Rattle.field.proofs.ByteLists.{all-from}
 use Rattle.field.proofs.Remainders.{parity-by}
-use Rattle.field.proofs.check_bytes.parity_four.Statement.{statement}
-use Rattle.field.proofs.check_bytes.parity_four.Tie as tie
+use Rattle.field.proofs.check_four.parity_four.Statement.{statement}
+use Rattle.field.proofs.check_four.parity_four.Tie as tie
 
 remainder-of-requires : tie.Need-remainder-of-requires
 unfolding halvesTable tableOf upFour upEight fromBigEndian toBigEndian parity remainderAfter multiple byRoot xorLists timesPower double shiftUp

@@ -11,8 +11,8 @@ use Rattle.field.specs.CheckBytes.{double, timesPower, syndromes}
 use Rattle.field.specs.Loops.{sumsAfter}
 use Rattle.field.proofs.Fold.{fold-turn, fold-done}
 use Rattle.field.proofs.Syndromes.{syndromes-fold}
-use Rattle.field.proofs.check_bytes.four_sums.Statement.{statement}
-use Rattle.field.proofs.check_bytes.four_sums.Tie as tie
+use Rattle.field.proofs.check_four.four_sums.Statement.{statement}
+use Rattle.field.proofs.check_four.four_sums.Tie as tie
 
 abbrev Inv-loop : tie.InvT-loop
 Inv-loop word zero₀ one₀ two₀ three₀ j₀ zero one two three j =

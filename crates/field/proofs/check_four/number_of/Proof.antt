@@ -10,8 +10,8 @@ use lib.ListN.{length, getD}
 use lib.Pow.{pow-add, pow-mono}
 use Rattle.field.specs.CheckBytes.{horner}
 use Rattle.field.proofs.Remainders.{Goes, value-zero, goes-end, byte-turn}
-use Rattle.field.proofs.check_bytes.number_of.Statement.{statement}
-use Rattle.field.proofs.check_bytes.number_of.Tie as tie
+use Rattle.field.proofs.check_four.number_of.Statement.{statement}
+use Rattle.field.proofs.check_four.number_of.Tie as tie
 
 abbrev Inv-loop : tie.InvT-loop
 Inv-loop word r₀ j₀ r j = (j ≤ length word) × (r < 2 ^ (8 * j)) × Goes word r j

@@ -7,8 +7,8 @@ use Rattle.field.specs.CheckBytes.{syndromes, horner, parity, remainderA
 use Rattle.field.specs.Shift.{shiftUp}
 use Rattle.field.specs.Loops.{halvesTable, tableOf, upFour, upEight}
 use Rattle.field.proofs.Remainders.{syndromes-by}
-use Rattle.field.proofs.check_bytes.syndromes_four.Statement.{statement}
-use Rattle.field.proofs.check_bytes.syndromes_four.Tie as tie
+use Rattle.field.proofs.check_four.syndromes_four.Statement.{statement}
+use Rattle.field.proofs.check_four.syndromes_four.Tie as tie
 
 remainder-of-requires : tie.Need-remainder-of-requires
 unfolding halvesTable tableOf upFour upEight fromBigEndian toBigEndian parity remainderAfter multiple byRoot xorLists timesPower double shiftUp

@@ -8,8 +8,8 @@ use lib.ListN.{length, getD, drop}
 use Rattle.field.specs.Bytes.{fromBigEndian, toBigEndian}
 use Rattle.field.proofs.BigEndian.{from-to}
 use Rattle.field.proofs.Remainders.{next-byte}
-use Rattle.field.proofs.check_bytes.four_at.Statement.{statement}
-use Rattle.field.proofs.check_bytes.four_at.Tie as tie
+use Rattle.field.proofs.check_four.four_at.Statement.{statement}
+use Rattle.field.proofs.check_four.four_at.Tie as tie
 
 module _ (word : List ℕ) (j : ℕ) (h : j + 4 ≤ length word) where
   rest : drop j word ≡ getD word j 0 ∷ getD word (j + 1) 0 ∷ getD word (j + 2) 0 ∷ getD word (j + 3) 0 ∷ drop (j + 4) word

@@ -7,8 +7,8 @@ use borrow.Author.Needs.{needs}
 use lib.ListN.{length, length-take}
 use lib.Seq.{length-take-le}
 use Rattle.field.proofs.Remainders.{Goes, goes-from, goes-end, eight-turn}
-use Rattle.field.proofs.check_bytes.remainder_of.Statement.{statement}
-use Rattle.field.proofs.check_bytes.remainder_of.Tie as tie
+use Rattle.field.proofs.check_four.remainder_of.Statement.{statement}
+use Rattle.field.proofs.check_four.remainder_of.Tie as tie
 
 abbrev Inv-loop : tie.InvT-loop
 Inv-loop fours eights word j₀ r₀ j r = (j ≤ length word) × ((length word - j) % 8 ≡ 0) × Goes word r j

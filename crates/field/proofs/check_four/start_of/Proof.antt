@@ -6,8 +6,8 @@ use borrow.Author.Needs.{needs}
 use lib.ListN.{length, length-take}
 use lib.Seq.{length-take-le}
 use Rattle.field.proofs.Remainders.{goes-from, goes-end, four-turn}
-use Rattle.field.proofs.check_bytes.start_of.Statement.{statement}
-use Rattle.field.proofs.check_bytes.start_of.Tie as tie
+use Rattle.field.proofs.check_four.start_of.Statement.{statement}
+use Rattle.field.proofs.check_four.start_of.Tie as tie
 
 slice-aggregate-number-of : tie.Need-slice-aggregate-number-of
 slice-aggregate-number-of c = sym (length-take-le _ _ (omega arith))
