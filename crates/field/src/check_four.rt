@@ -2,8 +2,8 @@
 // generator polynomial have the same syndromes.
 ghost use mathlib.Core.Path.{_≡_};
 ghost use mathlib.Core.List.{_++_};
-ghost use Prim.Native.Nat.{_+_, _<_, _≤_};
-ghost use lib.ListN.{length, drop};
+ghost use Prim.Native.Nat.{_+_, _%_, _<_, _≤_};
+ghost use lib.ListN.{length, getD, drop};
 ghost use Rattle.field.specs.Bytes.{padded, toBigEndian};
 ghost use Rattle.field.specs.CheckBytes.{syndromes, parity};
 ghost use Rattle.field.specs.Loops.{Leaves, upFour, upEight, halvesTable, atHalves};
@@ -276,19 +276,27 @@ const UP_EIGHT: [u32; 128] = [
     0x7E414A85,
 ];
 
+// The entry of a number's lowest half byte, in the part of a table that starts at `from`.
+fn half_at(table: &[u32; 128], n: u32, from: usize) -> u32
+    requires { ⌜ from ≤ 112 ⌝ }
+    ensures { λ r. ⌜ r ≡ getD (now (table .entry)) (n % 16 + from) 0 ⌝ }
+{
+    let half = (n % 16) as usize;
+    table[half + from]
+}
+
 // The XOR of a table's entries for the eight half bytes of a number: the number's own entry, since remainders add up by XOR.
 fn at_halves(table: &[u32; 128], x: u32) -> u32
     ensures { λ r. ⌜ r ≡ atHalves 8 (now (table .entry)) x ⌝ }
 {
-    let n = x as usize;
-    table[n % 16]
-        ^ table[n / 16 % 16 + 16]
-        ^ table[n / 256 % 16 + 32]
-        ^ table[n / 4096 % 16 + 48]
-        ^ table[n / 65536 % 16 + 64]
-        ^ table[n / 1048576 % 16 + 80]
-        ^ table[n / 16777216 % 16 + 96]
-        ^ table[n / 268435456 % 16 + 112]
+    half_at(table, x, 0)
+        ^ half_at(table, x >> 4, 16)
+        ^ half_at(table, x >> 8, 32)
+        ^ half_at(table, x >> 12, 48)
+        ^ half_at(table, x >> 16, 64)
+        ^ half_at(table, x >> 20, 80)
+        ^ half_at(table, x >> 24, 96)
+        ^ half_at(table, x >> 28, 112)
 }
 
 // The number that fewer than four bytes spell, which is their remainder.
