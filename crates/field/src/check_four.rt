@@ -382,11 +382,18 @@ pub fn syndromes_four(word: &[u8]) -> [u8; 4]
     four_sums(&rest)
 }
 
-// The four parity bytes of a message: the remainder that it leaves with four bytes 0 behind it.
+// The number that the four parity bytes of a message spell: the remainder that it leaves with four bytes 0 behind it.
+fn parity_number(fours: &[u32; 128], eights: &[u32; 128], message: &[u8]) -> u32
+    requires { ⌜ (now fours ≡ halvesTable upFour) × (now eights ≡ halvesTable upEight) ⌝ }
+    ensures { λ r. ⌜ toBigEndian r ≡ parity 4 (now (message .entry)) ⌝ }
+{
+    let r = remainder_of(fours, eights, message);
+    at_halves(fours, r)
+}
+
+// The four parity bytes of a message.
 pub fn parity_four(message: &[u8]) -> [u8; 4]
     ensures { λ s. ⌜ s ≡ padded 4 (parity 4 (now (message .entry))) ⌝ }
 {
-    let fours = &UP_FOUR;
-    let r = remainder_of(fours, &UP_EIGHT, message);
-    bytes::split(at_halves(fours, r))
+    bytes::split(parity_number(&UP_FOUR, &UP_EIGHT, message))
 }
