@@ -417,15 +417,13 @@ fn main() {
     println!("shelving searches the shelf for the seed from its start, as document 01's interface asks, on both sides alike:");
     println!("its time grows with the square of the number of records");
     let mut jobs = Vec::new();
-    for r in [2, 4] {
-        if wanted("001") {
-            let name = format!("document 001: 2,146,816 bytes, L 32, R {r}");
-            jobs.push(job(&name, 2_146_816, 32, r, 72_000, 300_000, 0, 1));
-        }
-        if wanted("limits") {
-            let name = format!("limits: 8,388,608 bytes, L 64, R {r}");
-            jobs.push(job(&name, 8_388_608, 64, r, 140_000, 20_000, 139_000, 2));
-        }
+    for r in [2, 4].into_iter().filter(|_| wanted("001")) {
+        let name = format!("document 001: 2,146,816 bytes, L 32, R {r}");
+        jobs.push(job(&name, 2_146_816, 32, r, 72_000, 300_000, 0, 1));
+    }
+    for r in [2, 4].into_iter().filter(|_| wanted("limits")) {
+        let name = format!("limits: 8,388,608 bytes, L 64, R {r}");
+        jobs.push(job(&name, 8_388_608, 64, r, 140_000, 20_000, 139_000, 2));
     }
     for job in &jobs {
         println!("\n{}", job.name);
