@@ -152,7 +152,8 @@ pub record Legal (c : Card) (ws : List ℕ) : Type 0 where
   pub limits : Limits c
   pub weights : Weights c ws
 
-no-number : {n : ℕ} → suc n ≡ 0 → ⊥
+-- a refusal has a number other than 0
+pub no-number : {n : ℕ} → suc n ≡ 0 → ⊥
 no-number e = omega arith
 
 pub legal : (c : Card) (ws : List ℕ) → cardRefusal c ws ≡ 0 → Legal c ws

@@ -11,4 +11,5 @@ pub mod Weights
 pub mod Parity
 pub mod Unique
 pub mod Syndromes
+pub mod Tables
 pub mod Remainders

@@ -13,7 +13,7 @@ use lib.Pow.{pow-pos, mod-pow-add}
 use lib.Seq.{drop-cons}
 use Rattle.field.specs.Bytes.{AllBytes, xorLists, fromBigEndian, toBigEndian}
 use Rattle.field.specs.CheckBytes.{timesPower, horner, valueAt, syndromes, parity}
-use Rattle.field.specs.Loops.{numberAt, Leaves, upFour, upEight, tableOf, halvesTable, atHalves}
+use Rattle.field.specs.Loops.{numberAt, Leaves, upFour, upEight, halvesTable, atHalves}
 use Rattle.field.proofs.Xor.{xors, xor-zero-eq}
 use Rattle.field.proofs.ByteLists.{four}
 use Rattle.field.proofs.BigEndian.{from-to, to-bytes}
@@ -22,6 +22,7 @@ use Rattle.field.proofs.Horner.{horner-append, horner-xor, horner-zeros
 use Rattle.field.proofs.Weights.{horner-weighted, value-weighted}
 use Rattle.field.proofs.Parity.{parity-length, parity-bytes, parity-vanishes}
 use Rattle.field.proofs.Unique.{parity-only}
+use Rattle.field.proofs.Tables.{entry}
 
 -- ---- the value of a number's bytes
 
@@ -75,12 +76,6 @@ eight-value i x h =
     four-value i (upFour x) h ∙ ap (timesPower (i * 4)) (four-value i x h) ∙ sym (power-add (i * 4) (i * 4) (numberAt i x))
 
 -- ---- a table's entries for half bytes
-
-entry : (n : ℕ) (f : ℕ → ℕ) (k : ℕ) → k < n → getD (tableOf n f) k 0 ≡ f k
-unfolding tableOf
-entry zero f k h = omega arith
-entry (suc n) f zero h = refl
-entry (suc n) f (suc k) h = entry n (λ m. f (suc m)) k (omega arith)
 
 -- the entry of half byte k at the value n
 half-entry : (f : ℕ → ℕ) (k n : ℕ) → k < 8 → n < 16 → getD (halvesTable f) (n + 16 * k) 0 ≡ f (n * 2 ^ (4 * k))

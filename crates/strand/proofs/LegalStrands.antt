@@ -26,18 +26,13 @@ use Rattle.strand.specs.Screen.{screenPasses}
 use Rattle.strand.specs.ReadCheck.{Reading, droplet, refused, wordSeed, wordPayload, allZero, sumsZero, wordReading, lettersReading, readCheck, strandWord}
 use Rattle.strand.specs.LegalStrand.{Spells, AcceptsExactly}
 use Rattle.strand.proofs.Spelling.{word-back, letters-all, letters-length, spelled-bytes, spelled-length, read-back}
+use Rattle.strand.proofs.ReadingCases.{case-letters}
 use Rattle.strand.proofs.StrandWords.{message-bytes, strand-length, strand-bytes, strand-seed, strand-payload}
 
 -- ---- an accepted read has passed each question
 
-module _ (s : ℕ) (p : List ℕ) (x : Reading) where
-  asked : (b : Bool) (n : ℕ) → cond b x (refused n) ≡ droplet s p → (b ≡ true) × (x ≡ droplet s p)
-  asked true n e = (refl, e)
-  asked false n e = absurd (let z : _≡_ {A = ℕ} 0 1 = cc in let y : ⊥ = omega arith in y)
-
-  asked-not : (b : Bool) (n : ℕ) → cond b (refused n) x ≡ droplet s p → (b ≡ false) × (x ≡ droplet s p)
-  asked-not true n e = absurd (let z : _≡_ {A = ℕ} 0 1 = cc in let y : ⊥ = omega arith in y)
-  asked-not false n e = (refl, e)
+not-refused : {n s : ℕ} {p : List ℕ} → refused n ≡ droplet s p → ⊥
+not-refused e = let z : _≡_ {A = ℕ} 0 1 = cc in omega arith
 
 -- ---- check sums
 
@@ -121,22 +116,36 @@ module _ (c : Card) (read : List ℕ) (seed : ℕ) (p : List ℕ) (reads : lette
   unfolding lettersReading wordReading
   let-through =
       let word = lettersWord read in
-      let last = droplet (wordSeed word) (wordPayload c word) in
-      let nine = asked seed p _ _ _ reads in
-      let ten = asked seed p _ _ _ (nine .1) in
-      let eleven = asked seed p _ _ _ (ten .1) in
-      let twelve = asked-not seed p _ _ _ (eleven .1) in
-      let thirteen = asked seed p _ _ _ (twelve .1) in
-      let same : last ≡ droplet seed p = thirteen .1 in
-      record {
-        bases = omega (arith, eqb-true (length read) (strandBases c) (nine .0));
-        all = ten .0;
-        sums = eleven .0;
-        nonzero = twelve .0;
-        passes = thirteen .0;
-        seed-is = cc same;
-        payload-is = cc same;
-      }
+      elim (either (eqb (length read) (strandBases c))) [
+        | inr n ↦ absurd (not-refused (simp n at reads))
+        | inl n ↦
+            elim (either (allLetters read)) [
+              | inr l ↦ absurd (not-refused (simp (n, l) at reads))
+              | inl l ↦
+                  elim (either (sumsZero c word)) [
+                    | inr s ↦ elim (either (eqb (wordSeed word) 0)) [ inl z ↦ absurd (not-refused (simp (n, l, s, z) at reads)) | inr z ↦ absurd (not-refused (simp (n, l, s, z) at reads)) ]
+                    | inl s ↦
+                        elim (either (eqb (wordSeed word) 0)) [
+                          | inl z ↦ absurd (not-refused (simp (n, l, s, z) at reads))
+                          | inr z ↦
+                              elim (either (screenPasses c word)) [
+                                | inr x ↦ absurd (not-refused (simp (n, l, s, z, x) at reads))
+                                | inl x ↦
+                                    let same : droplet (wordSeed word) (wordPayload c word) ≡ droplet seed p = simp (n, l, s, z, x) at reads in
+                                    record {
+                                      bases = omega (arith, eqb-true (length read) (strandBases c) n);
+                                      all = l;
+                                      sums = s;
+                                      nonzero = z;
+                                      passes = x;
+                                      seed-is = cc same;
+                                      payload-is = cc same;
+                                    }
+                              ]
+                        ]
+                  ]
+            ]
+      ]
 
   word-size : length (lettersWord read) ≡ strandBytes c
   word-size = spelled-length (strandBytes c) read (let-through .bases)
@@ -147,17 +156,24 @@ module _ (c : Card) (read : List ℕ) (seed : ℕ) (p : List ℕ) (reads : lette
 -- ---- the theorem
 
 module _ (c : Card) (weights read : List ℕ) (seed : ℕ) (p : List ℕ) where
-  spells : readCheck c weights read ≡ droplet seed p → Spells c weights read seed p
+  card-fine : readCheck c weights read ≡ droplet seed p → cardRefusal c weights ≡ 0
   unfolding readCheck
+  card-fine e =
+      elim (either (eqb (cardRefusal c weights) 0)) [
+        | inl t ↦ eqb-true (cardRefusal c weights) 0 t
+        | inr t ↦ absurd (not-refused (simp t at e))
+      ]
+
+  spells : readCheck c weights read ≡ droplet seed p → Spells c weights read seed p
   spells e =
       let word = lettersWord read in
-      let card = asked seed p (lettersReading c read) (eqb (cardRefusal c weights) 0) (cardRefusal c weights) e in
-      let fine = eqb-true (cardRefusal c weights) 0 (card .0) in
+      let fine = card-fine e in
+      let letters = sym (case-letters c weights read fine) ∙ e in
       let few = checks-bounds (legal c weights fine .sizes .check-count) .1 in
-      let through = let-through c read seed p (card .1) in
+      let through = let-through c read seed p letters in
       let is-seed = through .seed-is in
       let is-payload = through .payload-is in
-      let size = word-size c read seed p (card .1) in
+      let size = word-size c read seed p letters in
       let bytes = spelled-bytes read in
       let strand = word-strand c few word size bytes (through .sums) in
       let positive = eqb-false (wordSeed word) 0 (through .nonzero) in
@@ -165,7 +181,7 @@ module _ (c : Card) (weights read : List ℕ) (seed : ℕ) (p : List ℕ) where
         card = fine;
         nonzero = rw is-seed at (let z : 0 < wordSeed word = omega arith in z);
         fits = rw is-seed at (seed-lt c few word size bytes);
-        size = letters-payload c read seed p (card .1);
+        size = letters-payload c read seed p letters;
         bytes = rw is-payload at (payload-bytes c few word size bytes);
         screened = rw (← is-seed, ← is-payload, ← strand) (through .passes);
         letters = rw (← is-seed, ← is-payload, ← strand) (sym (read-back (strandBytes c) read (through .bases) (through .all)));

@@ -2,15 +2,18 @@
 use mathlib.Core.Path.{_≡_, refl, sym, ap, _∙_}
 use mathlib.Core.Bool.{Bool, true, false, cond, _&&_}
 use mathlib.Core.List.{List, _++_}
+use mathlib.Core.Logic.{inl, inr}
 use Prim.Native.Nat.{ℕ, suc, _+_, _*_, _≤_}
 use native.Mathlib.Omega.{arith}
 use borrow.Author.Tests.{eq-eqb, ne-eqb, eqb-false, leb-true}
 use lib.Dec.{eqb, leb}
 use lib.ListN.{length, take, take-append-drop}
+use Rattle.field.proofs.Tests.{either}
 use Rattle.droplet.specs.declared.card.Card.{Card}
 use Rattle.droplet.specs.PoolCard.{weightCount, strandBases}
 use Rattle.droplet.specs.Questions.{cardRefusal}
-use Rattle.droplet.proofs.Conjunctions.{and-true, said-yes}
+use Rattle.droplet.proofs.Conjunctions.{and-true}
+use Rattle.droplet.proofs.LegalCard.{no-number}
 use Rattle.strand.specs.declared.writer.Run.{Run}
 use Rattle.strand.specs.declared.writer.WriteAnswer.the-variants as answer
 use Rattle.strand.specs.Writer.{ownRefusal, writerRefusal, WriterPromise}
@@ -18,10 +21,6 @@ use Rattle.strand.specs.Loops.{Ran}
 use Rattle.strand.proofs.Lines.{text-length}
 
 -- ---- the questions 5 to 8
-
-said-no : (b : Bool) (n others : ℕ) → cond b (suc n) others ≡ 0 → (b ≡ false) × (others ≡ 0)
-said-no true n others e = absurd (let z : ⊥ = omega arith in z)
-said-no false n others e = (refl, e)
 
 -- what they leave where all say yes
 pub record Room (c : Card) (degrees start wanted buffer numbers : ℕ) : Type 0 where
@@ -33,15 +32,28 @@ pub roomy : {c : Card} {degrees start wanted buffer numbers : ℕ} (file : ℕ) 
     → Room c degrees start wanted buffer numbers
 unfolding ownRefusal
 roomy {c} {degrees} {start} {wanted} {buffer} {numbers} file e =
-    let five = said-yes (eqb file (c .f)) _ _ e in
-    let six = said-no (eqb start 0) _ _ (five .1) in
-    let seven = said-yes (leb wanted 1000000 && leb (wanted * (strandBases c + 1)) buffer) _ _ (six .1) in
-    let eight = said-yes (leb degrees numbers) _ _ (seven .1) in
-    record {
-      starts = eqb-false start 0 (six .0);
-      lines = leb-true _ buffer (and-true (leb wanted 1000000) _ (seven .0) .1);
-      places = leb-true degrees numbers (eight .0);
-    }
+    let few = leb wanted 1000000 && leb (wanted * (strandBases c + 1)) buffer in
+    elim (either (eqb start 0)) [
+      | inl s ↦ elim (either (eqb file (c .f))) [ inl f ↦ absurd (no-number (simp (s, f) at e)) | inr f ↦ absurd (no-number (simp (s, f) at e)) ]
+      | inr s ↦
+          elim (either (eqb file (c .f))) [
+            | inr f ↦ absurd (no-number (simp (s, f) at e))
+            | inl f ↦
+                elim (either few) [
+                  | inr w ↦ absurd (no-number (simp (s, f, w) at e))
+                  | inl w ↦
+                      elim (either (leb degrees numbers)) [
+                        | inr d ↦ absurd (no-number (simp (s, f, w, d) at e))
+                        | inl d ↦
+                            record {
+                              starts = eqb-false start 0 s;
+                              lines = leb-true _ buffer (and-true (leb wanted 1000000) _ w .1);
+                              places = leb-true degrees numbers d;
+                            }
+                      ]
+                ]
+          ]
+    ]
 
 -- ---- the answers
 

@@ -6,6 +6,7 @@ use Prim.Native.Nat.{ℕ, zero, suc, max, _≤_, _<_, _+_, _*_, _/_, _%_}
 use lib.Dec.{eqb, leb, ltb}
 use lib.ListN.{length, take, drop}
 use Rattle.field.specs.CheckBytes.{CheckCount}
+use Rattle.field.specs.Loops.{tableOf}
 use Rattle.droplet.specs.declared.card.Card.{Card}
 use Rattle.droplet.specs.PoolCard.{strandBytes, segmentCount, weightCount, weightSum, strandBases}
 use Rattle.droplet.specs.declared.card.Plan.{Plan}
@@ -32,11 +33,6 @@ pub record Reads (x n : ℕ) : Type 0 where
 -- the byte of four letters, or nothing
 unfoldable pub spelled : ℕ → ℕ → ℕ → ℕ → Spelled
 spelled a b c d = cond (allLetters (a ∷ b ∷ c ∷ d ∷ [])) (Byte (lettersByte a b c d)) Nothing
-
--- f at each number below n
-unfoldable pub tableOf : ℕ → (ℕ → ℕ) → List ℕ
-tableOf zero f = []
-tableOf (suc n) f = f zero ∷ tableOf n (λ k. f (suc k))
 
 -- the table of 256 entries: how many of a byte's four bases are C or G
 unfoldable pub gcTable : List ℕ

@@ -4,9 +4,10 @@ use Prim.Native.Nat.{ℕ, _/_, _%_, _<_, _^_}
 use lib.Bits.{bitXor}
 use lib.Dec.{eqb, eqb→eq, T}
 use lib.ListN.{getD}
+use Rattle.field.specs.Loops.{tableOf}
 use Rattle.field.proofs.Tests.{below, at}
 use Rattle.strand.specs.declared.screen.Inside.{Inside}
-use Rattle.strand.specs.Loops.{tableOf, runsTable, insideOf}
+use Rattle.strand.specs.Loops.{runsTable, insideOf}
 use borrow.Author.Needs.{needs}
 use Rattle.strand.proofs.screen.inside_of.Statement.{statement}
 use Rattle.strand.proofs.screen.inside_of.Tie as tie

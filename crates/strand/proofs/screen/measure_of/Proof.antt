@@ -8,10 +8,11 @@ use native.Mathlib.Numerals.{add-one}
 use native.Mathlib.Omega.{arith}
 use lib.ListN.{length, getD, drop, drop-of-length-le}
 use lib.Seq.{drop-cons}
+use Rattle.field.specs.Loops.{tableOf}
 use Rattle.strand.specs.declared.screen.Runs.{Runs}
 use Rattle.strand.specs.Letters.{byteBases, wordBases}
 use Rattle.strand.specs.Screen.{longestRun, gcCount, byteGc}
-use Rattle.strand.specs.Loops.{tableOf, gcTable, runsTable, runsAfter}
+use Rattle.strand.specs.Loops.{gcTable, runsTable, runsAfter}
 use Rattle.strand.proofs.Screening.{byte-run-grows, longest-run, runs-cons, byte-gc-most, gc-cons}
 use borrow.Author.Needs.{needs}
 use Rattle.strand.proofs.screen.measure_of.Statement.{statement}
