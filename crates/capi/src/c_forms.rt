@@ -85,7 +85,7 @@ pub extern "C" fn fountain_write(
     }
 }
 
-// Shelving: what became of the read, and the count of records after it.
+// Storing: what became of the read, and the count of records after it.
 #[no_mangle]
 pub extern "C" fn fountain_store(
     f: u32,

@@ -34,10 +34,10 @@ pub later-fits : (K L D : ℕ) (store : List ℕ) (count file marks list : ℕ) 
     → Fits K L D store count file marks list
 unfolding laterRefusal roomRefusal
 later-fits K L D store count file marks list e =
-    let q14 = said-yes (countFits L store count) 13 _ e in
-    let q17 = said-not (hasSeed 0 (records L count store)) 16 _ (q14 .1) in
-    let q18 = said-yes (leb (K * L) file && leb K marks) 17 _ (q17 .1) in
-    let q8 = said-yes (leb D list) 7 0 (q18 .1) in
+    let q14 = said-yes (countFits L store count) _ _ e in
+    let q17 = said-not (hasSeed 0 (records L count store)) _ _ (q14 .1) in
+    let q18 = said-yes (leb (K * L) file && leb K marks) _ _ (q17 .1) in
+    let q8 = said-yes (leb D list) _ _ (q18 .1) in
     let both = and-true (leb (K * L) file) (leb K marks) (q18 .0) in
     record {
       records-fit = leb-true _ _ (q14 .0);

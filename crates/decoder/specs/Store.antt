@@ -1,4 +1,4 @@
--- Document 01, "Shelf": a buffer and a count of records from its start, and the store call with its questions 14 to 16.
+-- Document 01, "Shelf", here a store: a buffer and a count of records from its start, and the store call with its questions 14 to 16.
 -- Assumes nothing.
 use mathlib.Core.Path.{_≡_}
 use mathlib.Core.Bool.{Bool, true, false, cond, _&&_}
