@@ -3,7 +3,7 @@
 use mathlib.Core.Path.{_≡_, refl, sym, ap, _∙_}
 use mathlib.Core.Bool.{Bool, true, false}
 use mathlib.Core.List.{List, _++_}
-use Prim.Native.Nat.{ℕ, suc, _+_, _-_, _*_, _≤_}
+use Prim.Native.Nat.{ℕ, suc, _+_, _-_, _*_, _<_, _≤_}
 use native.Mathlib.Nat.{mul-le-mul-right, suc-mul, sub-zero}
 use native.Mathlib.Omega.{arith}
 use lib.ListN.{length, take, drop}
@@ -66,7 +66,7 @@ module _ {c : Card} {ws file : List ℕ} {start wanted budget : ℕ} {out₀ lis
         ended Spent (sym (rw none at (now .goes-on)) ∙ run-spent c ws file wanted seed made tried (take at out) more)
 
     -- a turn, in which it does not
-    module _ (more : made ≡ wanted → ⊥) (left : tried ≡ budget → ⊥) where
+    module _ (more : made ≡ wanted → ⊥) (left : tried < budget) where
       -- there is room for one more line
       pub room : wanted * (strandBases c + 1) ≤ length out₀ → at + (strandBases c + 1) ≤ length out
       room h =

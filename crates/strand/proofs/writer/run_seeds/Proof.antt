@@ -1,7 +1,7 @@
 -- `run_seeds` meets its contract: each turn is one of document 01's. Assumes nothing.
 use mathlib.Core.Path.{_≡_, refl, ap, _∙_}
 use mathlib.Core.Logic.{⊎-elim}
-use Prim.Native.Nat.{_+_, _-_, _≤_}
+use Prim.Native.Nat.{_+_, _-_, _<_, _≤_}
 use native.Mathlib.Numerals.{add-one}
 use native.Mathlib.Omega.{arith}
 use lib.ListN.{length}
@@ -20,9 +20,14 @@ abbrev μ-loop : tie.MeasureT-loop
 μ-loop card plan weights file start wanted budget out₀ list₀ word₀ line seed₀ made₀ tried₀ at₀ out list word seed made tried at =
     budget - tried
 
+-- the budget is not spent
+less : (c : tie.Else1 Inv-loop μ-loop)
+    → c .before .before .loop .tried < c .before .before .before .before .before .before .before .before .before .args .budget
+less c = omega (arith, c .before .before .loop .inv .0 .in-budget)
+
 fits : (c : tie.Else1 Inv-loop μ-loop)
     → (let l = c .before .before .loop in l .at + (strandBases (c .before .before .before .before .before .before .before .before .before .args .card) + 1) ≤ length (l .out))
-fits c = room (c .before .before .loop .inv .0) (c .before .loop-test .taken) (c .if1 .left) (c .before .before .before .before .before .before .before .before .before .pre .1)
+fits c = room (c .before .before .loop .inv .0) (c .before .loop-test .taken) (less c) (c .before .before .before .before .before .before .before .before .before .pre .1)
 
 line-bytes-requires : tie.Need-line-bytes-requires Inv-loop μ-loop
 line-bytes-requires c κs =
@@ -64,8 +69,8 @@ loop-again c =
     let long = t .try-seed .kept .1 .1 .1 .1 .1 .0 in
     let line = ap (_+_ (l .at)) (e .before .before .before .line-bytes .ensures) in (
       ⊎-elim
-          (λ w. renamed (c .step-seed .ensures) (w .1 ∙ add-one _) (add-one _) (w .2 ∙ line) (passed (l .inv .0) more (e .if1 .left) turn long (fits e) (w .0 .taken)))
-          (λ w. renamed (c .step-seed .ensures) (w .1) (add-one _) (w .2) (failed (l .inv .0) more (e .if1 .left) turn long (fits e) (w .0 .left)))
+          (λ w. renamed (c .step-seed .ensures) (w .1 ∙ add-one _) (omega arith) (w .2 ∙ line) (passed (l .inv .0) more (less e) turn long (fits e) (w .0 .taken)))
+          (λ w. renamed (c .step-seed .ensures) (w .1) (omega arith) (w .2) (failed (l .inv .0) more (less e) turn long (fits e) (w .0 .left)))
           (c .before .if2 .came),
       omega (arith, l .inv .1, t .try-seed .kept),
       omega (arith, l .inv .2, t .try-seed .kept),
