@@ -4,6 +4,7 @@ use mathlib.Core.Path.{_≡_, refl, sym, ap, _∙_, subst}
 use mathlib.Core.List.{List, [], _∷_, _++_}
 use mathlib.Core.Logic.{inl, inr}
 use Prim.Native.Nat.{ℕ}
+use native.Mathlib.Omega.{arith}
 use lib.ListN.{length}
 use lib.Seq.{take-all}
 use Rattle.field.specs.Bytes.{All, AllBytes}
@@ -70,7 +71,7 @@ module _ (c : Card) (ws : List ℕ) where
   store-whole : (lent : List ℕ) (calls : List Call) → RoomForAll c ws lent calls → storedRecords c ws lent (readsOf calls) ≡ firstOfSeed [] (legalOf c ws calls)
   unfolding storedRecords
   store-whole lent calls fits =
-      let first = firstOfSeed [] (legalOf c ws calls) in take-all (room (c .l) lent) first (fitted (c .l) lent (length first) fits)
+      let first = firstOfSeed [] (legalOf c ws calls) in take-all (room (c .l) lent) first (fitted (c .l) lent (length first) (omega (arith, fits)))
 
   module _ (fine : cardRefusal c ws ≡ 0) where
     recordable : (reads : List (List ℕ)) → All (IsRecord (c .l)) (legalReads c ws reads)

@@ -73,14 +73,14 @@ module _ (K L : ℕ) (ds : List Droplet) (file marks : List ℕ) (ok : Peelable 
   unfolding peelAll
   peelAll-still = peel-still K L ds (ok .droplets) _ 0 (cleared K L file marks) (cleared-sized K L ds file marks ok) (omega arith)
 
-  -- the K + 1 passes that the definition allows are no limit
-  pub peelAll-enough : (spare : ℕ) → peel (suc K + spare) K L ds 0 (cleared K L file marks) ≡ peelAll K L ds file marks
-  unfolding peelAll
-  peelAll-enough spare =
-      peel-enough K L ds (ok .droplets) _ spare 0 (cleared K L file marks) (cleared-sized K L ds file marks ok) (omega arith)
-
   -- "at most the segments it answers as present, plus one"
   pub peelAll-passes : peeledPasses (peelAll K L ds file marks) ≤ present K (stateAfter K L ds file marks .marks) + 1
   unfolding peelAll
   peelAll-passes =
       omega (arith, peel-passes K L ds (ok .droplets) (suc K) 0 (cleared K L file marks) (cleared-sized K L ds file marks ok), cleared-present K L file marks)
+
+  -- the K + 1 passes that the definition allows are no limit
+  pub peelAll-enough : (spare : ℕ) → peel (suc K + spare) K L ds 0 (cleared K L file marks) ≡ peelAll K L ds file marks
+  unfolding peelAll
+  peelAll-enough spare =
+      peel-enough K L ds (ok .droplets) _ spare 0 (cleared K L file marks) (cleared-sized K L ds file marks ok) (omega arith)

@@ -136,20 +136,19 @@ module _ (weights : List ℕ) (K L : ℕ) (ds : List Droplet) (file₀ marks₀ 
       after : present K (pass L ds (record { file = file; marks = marks }) .marks) ≡ present K marks + n
       after = ap (λ (st : State). present K (st .marks)) (sym (passed .state)) ∙ passed .count
 
-      pub peeling-ends : n ≡ 0
-          → peeled (passes + 1) (record { file = file′; marks = marks′ }) ≡ peel (suc K) K L ds 0 (record { file = file₀; marks = marks₀ })
-      peeling-ends none =
+      pub peeling-ends : (passes′ : ℕ) → passes′ ≡ suc passes → n ≡ 0
+          → peeled passes′ (record { file = file′; marks = marks′ }) ≡ peel (suc K) K L ds 0 (record { file = file₀; marks = marks₀ })
+      peeling-ends passes′ more none =
           let same : present K (pass L ds (record { file = file; marks = marks }) .marks) ≡ present K marks = omega (arith, after) in
-          let more : passes + 1 ≡ suc passes = omega arith in
           rw (more, passed .state)
           (sym (peel-stop (K - passes) K L ds passes (record { file = file; marks = marks }) (eq-eqb _ _ same))
           ∙ ap (λ (fuel : ℕ). peel fuel K L ds passes (record { file = file; marks = marks })) (sym fuel-left) ∙ now .goes-on)
 
-      pub peeling-turns : (n ≡ 0 → ⊥) → length file′ ≡ length file → length marks′ ≡ length marks → length list′ ≡ length list
-          → PeelingOn weights K L ds file₀ marks₀ list₀ file′ marks′ list′ (there + n) (passes + 1)
-      peeling-turns some f m l =
-          let other : present K (pass L ds (record { file = file; marks = marks }) .marks) ≡ present K marks → ⊥ = λ e. some (omega (arith, after)) in
-          let more : passes + 1 ≡ suc passes = omega arith in
+      pub peeling-turns : (passes′ : ℕ) → passes′ ≡ suc passes → 0 < n
+          → length file′ ≡ length file → length marks′ ≡ length marks → length list′ ≡ length list
+          → PeelingOn weights K L ds file₀ marks₀ list₀ file′ marks′ list′ (there + n) passes′
+      peeling-turns passes′ more some f m l =
+          let other : present K (pass L ds (record { file = file; marks = marks }) .marks) ≡ present K marks → ⊥ = λ e. omega (arith, after) in
           let less : suc K - suc passes ≡ K - passes = omega arith in
           record {
             goes-on =
@@ -157,7 +156,7 @@ module _ (weights : List ℕ) (K L : ℕ) (ds : List Droplet) (file₀ marks₀ 
                 (sym (peel-more (K - passes) K L ds passes (record { file = file; marks = marks }) (ne-eqb _ _ other))
                 ∙ ap (λ (fuel : ℕ). peel fuel K L ds passes (record { file = file; marks = marks })) (sym fuel-left) ∙ now .goes-on);
             counted = omega (arith, passed .count, now .counted);
-            few = let positive : 0 < n = (let z : 0 < n = omega (arith, some) in z) in omega (arith, now .few);
+            few = omega (arith, now .few);
             rest = passed .rest ∙ now .rest;
             file-size = f ∙ now .file-size;
             marks-size = m ∙ now .marks-size;

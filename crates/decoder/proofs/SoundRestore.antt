@@ -40,7 +40,7 @@ pub peelAll-sound : (K L : ℕ) (ds : List Droplet) (file marks : List ℕ) → 
 peelAll-sound K L ds file marks ok bytes = record {
   missing-when = missing-when K L ds file marks ok;
   present-right = λ g is gives. present-right K L g ds file marks ok gives;
-  few-passes = peelAll-passes K L ds file marks ok;
+  few-passes = omega (arith, peelAll-passes K L ds file marks ok);
   counted = refl;
   whole = whole K L ds file marks ok bytes;
 }

@@ -113,6 +113,6 @@ module _ (L : ℕ) (lent : List ℕ) where
 
     pub reading-holds : (o : Reading) → Recordable L o → HoldsAfter L lent (grown rs o) count (storeReading L buffer count o)
     unfolding storeReading
-    reading-holds (refused q) f = h
+    reading-holds (refused q) f = record { number = h .number; bytes = rw (h .bytes) }
     reading-holds (droplet s p) f =
         compared-holds s p f (findSeed s (records L count buffer)) (ap (findSeed s) (sym (held-records (take (room L lent) rs) buffer count held-good h)))

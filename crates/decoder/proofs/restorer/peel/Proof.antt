@@ -37,7 +37,7 @@ returns c =
     let l = p .before .before .before .before in
     let done = p .pass .ensures in
     record {
-      state = peeling-ends _ _ _ _ _ _ _ _ _ _ _ _ (l .loop .inv) _ _ _ _ done (c .if1 .taken);
+      state = peeling-ends _ _ _ _ _ _ _ _ _ _ _ _ (l .loop .inv) _ _ _ _ done _ (omega arith) (omega (arith, c .if1 .taken));
       count = omega (arith, done .count, l .loop .inv .counted, c .if1 .taken);
       rest = done .rest ∙ l .loop .inv .rest;
     }
@@ -59,7 +59,7 @@ loop-again : tie.Need-loop-again Inv-loop μ-loop
 loop-again c =
     let p = c .before .before .before .before .before .before .before in
     let l = p .before .before .before .before in
-    peeling-turns _ _ _ _ _ _ _ _ _ _ _ _ (l .loop .inv) _ _ _ _ (p .pass .ensures) (c .if1 .left) (p .pass .kept .1 .1 .1 .1 .1 .0)
+    peeling-turns _ _ _ _ _ _ _ _ _ _ _ _ (l .loop .inv) _ _ _ _ (p .pass .ensures) _ (omega arith) (omega (arith, c .if1 .left)) (p .pass .kept .1 .1 .1 .1 .1 .0)
     (p .pass .kept .1 .1 .1 .1 .1 .1 .0) (p .pass .kept .1 .1 .1 .1 .1 .1 .1 .0)
 
 pub peel-spec : {M : Type 1} → statement M

@@ -80,10 +80,10 @@ said c =
     known _ _ _ _ _ _ _ (there (p .before .before .before) .1) (rw (all, stored p) at (c .starts-with .ensures))
 
 returns-2 : tie.Need-returns-2
-returns-2 c = rw (said (c .before), c .if1 .taken) (record { says = refl; leaves = refl })
+returns-2 c = record { says = rw (said (c .before), c .if1 .taken); leaves = rw (said (c .before), c .if1 .taken) }
 
 returns-3 : tie.Need-returns-3
-returns-3 c = rw (said (c .before), c .if1 .left) (record { says = refl; leaves = refl })
+returns-3 c = record { says = rw (said (c .before), c .if1 .left); leaves = rw (said (c .before), c .if1 .left) }
 
 pub store-droplet-spec : {M : Type 1} → statement M
 store-droplet-spec =
