@@ -1,5 +1,6 @@
 -- `add_answer` meets its contract, answer by answer. Assumes nothing.
 use mathlib.Core.Path.{refl, _∙_}
+use native.Mathlib.Omega.{arith}
 use borrow.Author.Needs.{needs}
 use Rattle.listing.specs.Listing.{afterAnswer}
 use Rattle.listing.proofs.Counting.{one-more}
@@ -46,7 +47,7 @@ returns-3 c =
         accepted = h .accepted;
         repeated = h .repeated;
         refused = c .one-more4 .ensures ∙ one-more _ _ (h .refused);
-        count = h .count;
+        count = omega (arith, h .count);
       });
       empty = refl;
     }
