@@ -6,7 +6,7 @@ use native.Mathlib.Nat.{le-refl}
 use native.Mathlib.Omega.{arith}
 use lib.ListN.{length, take, drop, length-append, length-drop}
 use lib.Seq.{length-take-le, take-at, drop-at, drop-drop}
-use Rattle.field.specs.Bytes.{All, fromBigEndian, toBigEndian}
+use Rattle.field.specs.Bytes.{All, toBigEndian}
 use Rattle.field.proofs.BigEndian.{to-from, to-length}
 use Rattle.decoder.specs.Store.{Record, recordBytes, recordText, recordSeed, recordPayload, recordFrom, recordsText, records}
 

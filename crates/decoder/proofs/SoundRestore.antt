@@ -2,7 +2,7 @@
 use mathlib.Core.Path.{_≡_, refl}
 use mathlib.Core.List.{List}
 use mathlib.Core.Logic.{inl, inr}
-use Prim.Native.Nat.{ℕ, _+_, _<_}
+use Prim.Native.Nat.{ℕ, _<_}
 use native.Mathlib.Omega.{arith}
 use borrow.Author.Tests.{eqb-true}
 use lib.Dec.{eqb}
@@ -17,7 +17,7 @@ use Rattle.droplet.proofs.LegalCard.{legal}
 use Rattle.droplet.proofs.Sets.{segments-below, segments-distinct}
 use Rattle.decoder.specs.declared.restorer.Sheet.{Sheet}
 use Rattle.decoder.specs.declared.restorer.RestoreAnswer.the-variants as sheet
-use Rattle.decoder.specs.Restorer.{Droplet, droplets, present, Peeled, peeled, peeledPasses, peeledState, peelAll, contradictions, restoreRefusal, Restored, restored, refusal, sheetOf, restore, RestorePromise}
+use Rattle.decoder.specs.Restorer.{Droplet, droplets, present, Peeled, peeled, peeledPasses, peeledState, peelAll, contradictions, restoreRefusal, restored, refusal, sheetOf, restore, RestorePromise}
 use Rattle.decoder.specs.Demand3.{Sound}
 use Rattle.decoder.proofs.PoolShapes.{Peelable, stateAfter}
 use Rattle.decoder.proofs.PeelingEnds.{peelAll-passes}

@@ -1,7 +1,7 @@
 -- The droplets in a store: payloads of L bytes each where the count fits, bytes where the buffer has bytes. Assumes nothing.
 use mathlib.Core.Path.{_≡_}
 use mathlib.Core.List.{List}
-use Prim.Native.Nat.{ℕ, zero, suc, _+_, _*_, _≤_, _<_}
+use Prim.Native.Nat.{ℕ, zero, suc, _*_, _≤_, _<_}
 use native.Mathlib.Omega.{arith}
 use lib.ListN.{length, drop, length-drop}
 use Rattle.field.specs.Bytes.{All, IsByte, AllBytes}

@@ -2,7 +2,7 @@
 use mathlib.Core.Path.{_≡_}
 use mathlib.Core.List.{List}
 use Prim.Native.Nat.{ℕ, _+_, _*_, _≤_}
-use lib.ListN.{length, take, drop}
+use lib.ListN.{length, drop}
 use Rattle.strand.specs.declared.read_check.ReadOutcome.{ReadOutcome}
 use Rattle.strand.specs.declared.read_check.ReadOutcome.the-variants as outcome
 use Rattle.decoder.specs.declared.store.Place.{Place}

@@ -1,6 +1,6 @@
 -- The read check accepts exactly the strings that spell a legal strand, and gives back its seed and payload. Assumes nothing.
 use mathlib.Core.Path.{_≡_, refl, sym, ap, ap₂, _∙_, subst}
-use mathlib.Core.Bool.{Bool, true, false, cond, false≢true}
+use mathlib.Core.Bool.{true, false, false≢true}
 use mathlib.Core.List.{List, [], _∷_, _++_, append-assoc}
 use mathlib.Core.Logic.{inl, inr}
 use Prim.Native.Nat.{ℕ, _*_, _^_, _<_, _≤_}
@@ -23,7 +23,7 @@ use Rattle.droplet.specs.Questions.{cardRefusal}
 use Rattle.droplet.proofs.LegalCard.{legal, checks-bounds}
 use Rattle.strand.specs.Letters.{allLetters, lettersWord}
 use Rattle.strand.specs.Screen.{screenPasses}
-use Rattle.strand.specs.ReadCheck.{Reading, droplet, refused, wordSeed, wordPayload, allZero, sumsZero, wordReading, lettersReading, readCheck, strandWord}
+use Rattle.strand.specs.ReadCheck.{droplet, refused, wordSeed, wordPayload, allZero, sumsZero, wordReading, lettersReading, readCheck, strandWord}
 use Rattle.strand.specs.LegalStrand.{Spells, AcceptsExactly}
 use Rattle.strand.proofs.Spelling.{word-back, letters-all, letters-length, spelled-bytes, spelled-length, read-back}
 use Rattle.strand.proofs.ReadingCases.{case-letters}

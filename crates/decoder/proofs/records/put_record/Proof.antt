@@ -1,7 +1,6 @@
 -- `put_record` meets its contract: a droplet's bytes are a record's. Assumes nothing.
-use mathlib.Core.Path.{_≡_, sym, _∙_}
+use mathlib.Core.Path.{sym, _∙_}
 use mathlib.Core.List.{append-assoc}
-use native.Mathlib.Omega.{arith}
 use lib.ListN.{length}
 use Rattle.field.specs.Bytes.{toBigEndian}
 use Rattle.decoder.specs.Store.{recordBytes, recordText}

@@ -1,7 +1,6 @@
 -- `has_seed_zero` meets its contract: the records from `i` on decide. Assumes nothing.
 use mathlib.Core.Path.{_≡_, sym, ap, _∙_}
-use mathlib.Core.List.{List}
-use Prim.Native.Nat.{ℕ, _-_, _≤_}
+use Prim.Native.Nat.{_-_, _≤_}
 use native.Mathlib.Omega.{arith}
 use lib.ListN.{length}
 use Rattle.decoder.specs.Store.{recordSeed, records}

@@ -1,5 +1,4 @@
 -- `sum_weights` meets its contract: what the rows leave is summed one by one. Assumes nothing.
-use native.Mathlib.Omega.{arith}
 use lib.ListN.{getD-replicate}
 use Rattle.droplet.specs.PoolCard.{firstWeights}
 use borrow.Author.Needs.{needs}
