@@ -1,7 +1,7 @@
 -- A word's remainder by the generator polynomial for R = 4, as the number that its four bytes spell: one, four or eight more bytes
 -- give the next remainder, four and eight by tables of half bytes; and the remainder gives the word's syndromes and its parity.
 -- Assumes nothing.
-use mathlib.Core.Path.{_≡_, refl, sym, ap, ap₂, _∙_, subst}
+use mathlib.Core.Path.{_≡_, refl, sym, ap, ap₂, _∙_}
 use mathlib.Core.List.{List, _∷_, _++_}
 use Prim.Native.Nat.{ℕ, zero, suc, _+_, _*_, _/_, _%_, _^_, _<_, _≤_}
 use native.Mathlib.Nat.{mod-lt}
@@ -11,12 +11,11 @@ use lib.Dec.{lit<}
 use lib.ListN.{length, getD, take, drop, take-append-drop, drop-of-length-le}
 use lib.Pow.{pow-pos, mod-pow-add}
 use lib.Seq.{drop-cons}
-use Rattle.field.specs.Bytes.{AllBytes, xorLists, fromBigEndian, toBigEndian}
+use Rattle.field.specs.Bytes.{AllBytes, xorLists, toBigEndian}
 use Rattle.field.specs.CheckBytes.{timesPower, horner, valueAt, syndromes, parity}
 use Rattle.field.specs.Loops.{numberAt, Leaves, upFour, upEight, halvesTable, atHalves}
 use Rattle.field.proofs.Xor.{xors, xor-zero-eq}
-use Rattle.field.proofs.ByteLists.{four}
-use Rattle.field.proofs.BigEndian.{from-to, to-bytes}
+use Rattle.field.proofs.BigEndian.{four-back, to-bytes}
 use Rattle.field.proofs.Powers.{power-xor, power-zero, power-add}
 use Rattle.field.proofs.Horner.{horner-append, horner-xor, horner-zeros}
 use Rattle.field.proofs.Weights.{horner-weighted, value-weighted}
@@ -49,12 +48,6 @@ pub value-zero : (i : ℕ) → numberAt i 0 ≡ 0
 unfolding toBigEndian
 value-zero i = horner-zeros i 4
 
--- four bytes spell a number that gives them back
-spelled : (l : List ℕ) → length l ≡ 4 → AllBytes l → toBigEndian (fromBigEndian l) ≡ l
-spelled l e h =
-    ap (λ (m : List ℕ). toBigEndian (fromBigEndian m)) (four l e) ∙ from-to _ _ _ _ (subst (λ (m : List ℕ). AllBytes m) (four l e) h)
-    ∙ sym (four l e)
-
 -- ---- four or eight bytes behind it
 
 four-more : (i s x : ℕ) → horner i s (toBigEndian x) ≡ bitXor (timesPower (i * 4) s) (numberAt i x)
@@ -65,7 +58,7 @@ four-value : (i x : ℕ) → i < 4 → numberAt i (upFour x) ≡ timesPower (i *
 unfolding upFour
 four-value i x h =
     let p = parity 4 (toBigEndian x) in
-    let e = spelled p (parity-length 4 (toBigEndian x)) (parity-bytes 4 (toBigEndian x) (to-bytes x)) in
+    let e = four-back p (parity-length 4 (toBigEndian x)) (parity-bytes 4 (toBigEndian x) (to-bytes x)) .0 in
     sym (xor-zero-eq (timesPower (i * 4) (numberAt i x)) (numberAt i (upFour x))
     (sym (four-more i (numberAt i x) (upFour x)) ∙ ap (horner i (numberAt i x)) e ∙ sym (horner-append i 0 (toBigEndian x) p)
     ∙ parity-vanishes 4 (toBigEndian x) i h))

@@ -9,11 +9,11 @@ use borrow.Author.Tests.{eq-eqb, ne-eqb, eqb-true, eqb-false}
 use lib.Dec.{eqb}
 use lib.ListN.{length, take, drop, replicate, take-append-drop, length-drop}
 use lib.Seq.{length-take-le}
-use Rattle.field.specs.Bytes.{IsByte, AllBytes, fromBigEndian, toBigEndian}
+use Rattle.field.specs.Bytes.{IsByte, AllBytes, toBigEndian}
 use Rattle.field.specs.CheckBytes.{Vanishes, syndromes}
 use Rattle.field.proofs.Tests.{either}
-use Rattle.field.proofs.BigEndian.{from-to, from-lt}
-use Rattle.field.proofs.ByteLists.{four, all-take, all-drop}
+use Rattle.field.proofs.BigEndian.{four-back}
+use Rattle.field.proofs.ByteLists.{all-take, all-drop}
 use Rattle.field.proofs.Parity.{parity-vanishes}
 use Rattle.field.proofs.Unique.{parity-only}
 use Rattle.field.proofs.Syndromes.{syndromes-vanish}
@@ -55,11 +55,6 @@ module _ (c : Card) (word : List ℕ) (few : c .r ≤ 4) where
 
 -- ---- a word whose check sums are 0 is that of its seed and payload
 
-seed-text : (l : List ℕ) → length l ≡ 4 → AllBytes l → (toBigEndian (fromBigEndian l) ≡ l) × (fromBigEndian l < 2 ^ 32)
-seed-text l e =
-    subst (λ (m : List ℕ). AllBytes m → (toBigEndian (fromBigEndian m) ≡ m) × (fromBigEndian m < 2 ^ 32)) (sym (four l e))
-    (λ h. (from-to _ _ _ _ h, from-lt _ _ _ _ h))
-
 payload-size : (c : Card) (word : List ℕ) → length word ≡ strandBytes c → length (wordPayload c word) ≡ c .l
 unfolding strandBytes
 payload-size c word size = length-take-le (c .l) (drop 4 word) (rw length-drop (omega arith))
@@ -70,7 +65,7 @@ module _ (c : Card) (few : c .r ≤ 4) (word : List ℕ) (size : length word ≡
   front-size = length-take-le 4 word (omega arith)
 
   pub seed-lt : wordSeed word < 2 ^ 32
-  seed-lt = seed-text (take 4 word) front-size (all-take IsByte 4 word bytes) .1
+  seed-lt = four-back (take 4 word) front-size (all-take IsByte 4 word bytes) .1
 
   pub payload-bytes : AllBytes (wordPayload c word)
   payload-bytes = all-take IsByte (c .l) (drop 4 word) (all-drop IsByte 4 word bytes)
@@ -84,7 +79,7 @@ module _ (c : Card) (few : c .r ≤ 4) (word : List ℕ) (size : length word ≡
   word-parts : word ≡ message ++ checks
   unfolding message checks
   word-parts =
-      rw (seed-text (take 4 word) front-size (all-take IsByte 4 word bytes) .0, append-assoc (take 4 word) (wordPayload c word) (drop (c .l) (drop 4 word)), take-append-drop (c .l) (drop 4 word))
+      rw (four-back (take 4 word) front-size (all-take IsByte 4 word bytes) .0, append-assoc (take 4 word) (wordPayload c word) (drop (c .l) (drop 4 word)), take-append-drop (c .l) (drop 4 word))
       (sym (take-append-drop 4 word))
 
   checks-size : length checks ≡ c .r
