@@ -1,5 +1,9 @@
 pub mod Spelling
 pub mod Screening
+pub mod PackedBases
+pub mod PackedRuns
+pub mod MatchRows
+pub mod Chunks
 pub mod StrandWords
 pub mod ReadingCases
 pub mod LegalStrands

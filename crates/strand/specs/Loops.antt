@@ -1,23 +1,21 @@
 -- What the contracts of private functions cite. No sentence of document 01 stands here. Assumes nothing.
 use mathlib.Core.Path.{_≡_}
 use mathlib.Core.Bool.{cond, Bool}
-use mathlib.Core.List.{List, [], _∷_, _++_}
-use Prim.Native.Nat.{ℕ, suc, max, _≤_, _<_, _+_, _*_, _/_, _%_}
+use mathlib.Core.List.{List, [], _∷_, _++_, foldl}
+use Prim.Native.Nat.{ℕ, zero, suc, max, _≤_, _<_, _+_, _*_, _/_, _%_, _^_}
+use lib.Bits.{bitAnd, bitXor}
 use lib.Dec.{eqb, ltb}
 use lib.ListN.{length, take, drop}
 use Rattle.field.specs.CheckBytes.{CheckCount}
-use Rattle.field.specs.Loops.{tableOf}
 use Rattle.droplet.specs.declared.card.Card.{Card}
 use Rattle.droplet.specs.PoolCard.{strandBytes, segmentCount, weightCount, weightSum, strandBases}
 use Rattle.droplet.specs.declared.card.Plan.{Plan}
 use Rattle.droplet.specs.Questions.{cardRefusal}
 use Rattle.strand.specs.declared.letters.Spelled.{Spelled}
 use Rattle.strand.specs.declared.letters.Spelled.the-variants.{Byte, Nothing}
-use Rattle.strand.specs.declared.screen.Inside.{Inside}
-use Rattle.strand.specs.declared.screen.Runs.{Runs}
 use Rattle.strand.specs.Letters.{Letter, Bits, Other, letterBits, allLetters, lettersByte}
 use Rattle.strand.specs.declared.writer.Run.{Run}
-use Rattle.strand.specs.Screen.{byteGc, screenPasses}
+use Rattle.strand.specs.Screen.{gcCount, screenPasses}
 use Rattle.strand.specs.Writer.{seedWord, strandLine, runEnd, writerRun}
 
 -- the letter that a number stands for: two bits, and 32 or more for none
@@ -34,43 +32,58 @@ pub record Reads (x n : ℕ) : Type 0 where
 unfoldable pub spelled : ℕ → ℕ → ℕ → ℕ → Spelled
 spelled a b c d = cond (allLetters (a ∷ b ∷ c ∷ d ∷ [])) (Byte (lettersByte a b c d)) Nothing
 
--- the table of 256 entries: how many of a byte's four bases are C or G
-unfoldable pub gcTable : List ℕ
-gcTable = tableOf 256 byteGc
+-- ---- the bases of a word as one number, two bits to a base
 
--- of four bases, whose neighbours are equal or not: how many past the first are equal at their start, at their end, and in the
--- longest run
-abbrev pub startMore : Bool → Bool → Bool → ℕ
-startMore e f g = cond e (cond f (cond g 3 2) 1) 0
+-- a number with bytes behind it
+unfoldable pub numberAfter : ℕ → List ℕ → ℕ
+numberAfter n [] = n
+numberAfter n (b ∷ bs) = numberAfter (n * 256 + b) bs
 
-abbrev pub endMore : Bool → Bool → Bool → ℕ
-endMore e f g = cond g (cond f (cond e 3 2) 1) 0
+-- numbers of 64 bits as one number
+unfoldable pub chunksNumber : List ℕ → ℕ
+chunksNumber = foldl (λ n c. n * 2 ^ 64 + c) 0
 
-abbrev pub longestMore : Bool → Bool → Bool → ℕ
-longestMore e f g = cond f (cond e (cond g 3 2) (cond g 2 1)) (cond e 1 (cond g 1 0))
+-- the lower bit of each of k bases
+unfoldable pub lowBits : ℕ → ℕ
+lowBits zero = 0
+lowBits (suc k) = lowBits k * 4 + 1
 
-abbrev pub packedMore : Bool → Bool → Bool → ℕ
-packedMore e f g = startMore e f g + 4 * endMore e f g + 16 * longestMore e f g
+-- how many of a number's k last bases are C or G
+unfoldable pub gcIn : ℕ → ℕ → ℕ
+gcIn zero n = 0
+gcIn (suc k) n = gcIn k (n / 4) + gcCount (n % 4 ∷ [])
 
--- the table of 64 entries, by three pairs of bits, 0 where neighbours are equal
-unfoldable pub runsTable : List ℕ
-runsTable = tableOf 64 (λ x. packedMore (eqb (x / 16) 0) (eqb (x / 4 % 4) 0) (eqb (x % 4) 0))
+-- a flag for each of the k last pairs of bits: set where both are 0
+unfoldable pub zeroPairs : ℕ → ℕ → ℕ
+zeroPairs zero d = 0
+zeroPairs (suc k) d = zeroPairs k (d / 4) * 4 + cond (eqb (d % 4) 0) 1 0
 
--- the runs inside four bases, and inside a byte
-abbrev pub insideFour : ℕ → ℕ → ℕ → ℕ → Inside
-insideFour a b c d =
-    let e = eqb b a in
-    let f = eqb c b in
-    let g = eqb d c in
-    record { start = startMore e f g; end = endMore e f g; longest = longestMore e f g }
+-- a flag for each of the k last bases: set where it matches, which is to be equal to the base before it
+abbrev pub matches : ℕ → ℕ → ℕ
+matches k n = zeroPairs k (bitXor n (n / 4))
 
-unfoldable pub insideOf : ℕ → Inside
-insideOf b = insideFour (b / 64 % 4) (b / 16 % 4) (b / 4 % 4) (b % 4)
+-- k flags, each 0 or 1, two bits to a flag
+unfoldable pub Flags : ℕ → ℕ → Type 0
+Flags zero n = n ≡ 0
+Flags (suc k) n = (n % 4 ≤ 1) × Flags k (n / 4)
 
--- the runs after one more base
-unfoldable pub runsAfter : Runs → ℕ → Runs
-runsAfter runs base =
-    let now = cond (eqb base (runs .last)) (suc (runs .run)) 1 in record { last = base; run = now; longest = max (runs .longest) now }
+-- the row of set flags at the end of k, and the longest row
+unfoldable pub endRow : ℕ → ℕ → ℕ
+endRow zero n = 0
+endRow (suc k) n = cond (eqb (n % 4) 1) (suc (endRow k (n / 4))) 0
+
+unfoldable pub longestRow : ℕ → ℕ → ℕ
+longestRow zero n = 0
+longestRow (suc k) n = max (longestRow k (n / 4)) (endRow (suc k) n)
+
+-- of the set flags those that stand behind another
+unfoldable pub thinned : ℕ → ℕ
+thinned n = bitAnd n (n / 4)
+
+-- a word's matches behind a base, as numbers of 64 bits, and how many of its bases are C or G
+pub record MatchesOf (before : ℕ) (word : List ℕ) (gc : ℕ) (chunks : List ℕ) : Type 0 where
+  pub flags : chunksNumber chunks ≡ matches (4 * length word) (numberAfter before word)
+  pub counts : gc ≡ gcIn (4 * length word) (numberAfter before word)
 
 -- what the functions that check a read need of a card that was not refused
 pub record InRange (c : Card) : Type 0 where

@@ -41,7 +41,7 @@ pub fn letter_of(base: u8) -> u8
 }
 
 // The four bases of a byte, highest pair of bits first.
-pub fn byte_bases(b: u8) -> [u8; 4]
+fn byte_bases(b: u8) -> [u8; 4]
     ensures { λ r. ⌜ r ≡ byteBases b ⌝ }
 {
     [(b >> 6) & 3, (b >> 4) & 3, (b >> 2) & 3, b & 3]

@@ -2,7 +2,7 @@
 pub mod c_form;
 pub mod droplet_bytes;
 pub mod letters;
+mod packed;
 pub mod read_check;
 pub mod screen;
-mod tables;
 pub mod writer;

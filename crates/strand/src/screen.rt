@@ -1,12 +1,10 @@
 ghost use mathlib.Core.Path.{_≡_};
-ghost use mathlib.Core.List.{foldl};
-ghost use Prim.Native.Nat.{_+_, _*_, _≤_, max};
+ghost use Prim.Native.Nat.{_+_, _/_, _≤_, _<_};
 ghost use lib.ListN.{length};
-ghost use Rattle.strand.specs.Letters.{byteBases, wordBases};
-ghost use Rattle.strand.specs.Screen.{longestRun, gcCount, byteGc, withinLimits, screenPasses};
-ghost use Rattle.strand.specs.Loops.{gcTable, runsTable, insideOf, runsAfter};
-use crate::letters;
-use crate::tables;
+ghost use Rattle.strand.specs.Letters.{wordBases};
+ghost use Rattle.strand.specs.Screen.{longestRun, gcCount, withinLimits, screenPasses};
+ghost use Rattle.strand.specs.Loops.{MatchesOf};
+use crate::packed;
 use droplet::card;
 use droplet::card::Bases;
 use droplet::card::Bytes;
@@ -18,88 +16,38 @@ pub struct Measure {
     pub gc: usize,
 }
 
-// The runs of the bases so far: the last base, how many equal to it stand at the end, and the longest run.
-pub struct Runs {
-    pub last: u8,
-    pub run: usize,
-    pub longest: usize,
-}
-
-// The runs inside a byte, each by how many bases it has past its first one: the run at the byte's start, the one at its end and
-// the longest.
-pub struct Inside {
-    pub start: u8,
-    pub end: u8,
-    pub longest: u8,
-}
-
-// A byte's entry of the table. The table is lent, since a constant that is indexed is written out at each use.
-fn gc_of(table: &[u8; 256], b: u8) -> u8
-    requires { ⌜ now table ≡ gcTable ⌝ }
-    ensures { λ r. ⌜ r ≡ byteGc b ⌝ }
+// Puts the matches of a word's bases into `matches`, the first ones and then 32 to a number, and answers how many bases are C or G.
+// `before` is the base before the word.
+fn put_matches(matches: &mut [u64], word: &[u8], before: u64) -> usize
+    requires { ⌜ (length (now word) ≤ 72) × (length (now matches) ≡ length (now word) / 8 + 1) × (before < 4) ⌝ }
+    ensures { λ gc. ⌜ MatchesOf before (now (word .entry)) gc (now (matches .exit)) ⌝ }
 {
-    let i = b as usize;
-    table[i]
-}
-
-fn add_base(runs: Runs, base: u8) -> Runs
-    requires { ⌜ runs .run ≤ 65536 ⌝ }
-    ensures { λ r. ⌜ r ≡ runsAfter runs base ⌝ }
-{
-    let run = if base == runs.last { runs.run + 1 } else { 1 };
-    let longest = if runs.longest < run {
-        run
-    } else {
-        runs.longest
-    };
-    Runs {
-        last: base,
-        run,
-        longest,
+    let rest = word.len() % 8;
+    let front = packed::front_of(&word[..rest], before);
+    matches[0] = packed::matches_of(front.number ^ (front.number >> 2), front.mask);
+    let mut gc = packed::gc_of(front.number, front.mask) as usize;
+    let mut last = front.number;
+    let mut k = 0;
+    while k < word.len() / 8 {
+        let bases = packed::eight_at(word, rest + k * 8);
+        k += 1;
+        matches[k] = packed::matches_of(bases ^ packed::moved(last, bases), packed::LOW_BITS);
+        gc += packed::gc_of(bases, packed::LOW_BITS) as usize;
+        last = bases;
     }
+    gc
 }
 
-// The longer of two lengths.
-fn longer(a: usize, b: usize) -> usize
-    ensures { λ r. ⌜ r ≡ max a b ⌝ }
+// The measure of a word that is not empty, with room for its matches. Nothing stands before the strand: what is put there is the
+// complement of its first base, which never matches it.
+fn measure_in(matches: &mut [u64], word: &[u8]) -> Measure
+    requires { ⌜ (0 < length (now word)) × (length (now word) ≤ 72) × (length (now matches) ≡ length (now word) / 8 + 1) ⌝ }
+    ensures { λ r. ⌜ (r .longest ≡ longestRun (wordBases (now (word .entry)))) × (r .gc ≡ gcCount (wordBases (now (word .entry)))) ⌝ }
 {
-    if a < b { b } else { a }
-}
-
-// The runs inside a byte. Its XOR with itself moved by one base has a pair of bits 0 just where two neighbours are equal.
-fn inside_of(table: &[u8; 64], b: u8) -> Inside
-    requires { ⌜ now table ≡ runsTable ⌝ }
-    ensures { λ r. ⌜ r ≡ insideOf b ⌝ }
-{
-    let i = ((b ^ (b >> 2)) % 64) as usize;
-    let t = table[i];
-    Inside {
-        start: t % 4,
-        end: t / 4 % 4,
-        longest: t / 16 % 4,
-    }
-}
-
-// The runs after a byte's four bases: the first base as any other, the rest by the table.
-fn add_byte(table: &[u8; 64], runs: Runs, b: u8) -> Runs
-    requires { ⌜ (now table ≡ runsTable) × (runs .run ≤ 65000) ⌝ }
-    ensures { λ r. ⌜ r ≡ foldl runsAfter runs (byteBases b) ⌝ }
-{
-    let bases = letters::byte_bases(b);
-    let one = add_base(runs, bases[0]);
-    let inside = inside_of(table, b);
-    let head = one.run + inside.start as usize;
-    let longest = longer(longer(one.longest, inside.longest as usize + 1), head);
-    let run = if inside.start == 3 {
-        head
-    } else {
-        inside.end as usize + 1
-    };
-    Runs {
-        last: bases[3],
-        run,
-        longest,
-    }
+    let before = 3 - word[0] / 64;
+    let gc = put_matches(&mut *matches, word, before as u64);
+    let longest = packed::longest_run(&mut *matches);
+    Measure { longest, gc }
 }
 
 // The longest run of a word's bases, and how many of them are C or G.
@@ -107,25 +55,12 @@ pub fn measure_of(word: &[u8]) -> Measure
     requires { ⌜ length (now word) ≤ 72 ⌝ }
     ensures { λ r. ⌜ (r .longest ≡ longestRun (wordBases (now (word .entry)))) × (r .gc ≡ gcCount (wordBases (now (word .entry)))) ⌝ }
 {
-    // 4 is no base: nothing stands before the strand
-    let mut runs = Runs {
-        last: 4,
-        run: 0,
-        longest: 0,
-    };
-    let mut gc: usize = 0;
-    let mut i = 0;
-    while i < word.len() {
-        let b = word[i];
-        let next = add_byte(&tables::RUNS, runs, b);
-        runs = next;
-        gc += gc_of(&tables::GC, b) as usize;
-        i += 1;
+    if word.len() == 0 {
+        return Measure { longest: 0, gc: 0 };
     }
-    Measure {
-        longest: runs.longest,
-        gc,
-    }
+    let mut matches = [0u64; 10];
+    let n = word.len() / 8 + 1;
+    measure_in(&mut matches[..n], word)
 }
 
 // What the card allows of `n` bases. Both sides are whole numbers: nothing is rounded.

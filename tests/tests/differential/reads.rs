@@ -221,7 +221,8 @@ fn byte_of(letters: &[u8]) -> u8 {
 pub const REGIONS: &[&str] = &[
     "answer 9", "answer 10", "answer 11", "answer 12", "answer 13",
     "9: a letter short", "9: a letter over", "9: empty", "10: N", "10: small letter", "10: the last letter",
-    "11: only the last check sum", "13: run = m + 1", "13: lo just missed", "13: hi just missed",
+    "11: only the last check sum", "13: run = m + 1", "13: run = m + 1 over the end of eight bytes",
+    "13: run of eight bytes and more", "13: lo just missed", "13: hi just missed",
     "run = m", "run over a byte's end", "lo just passed", "hi just passed", "all of C and G", "none of C and G", "lo and hi both met",
     "seed 1",
 ];
@@ -260,6 +261,15 @@ pub fn note(regions: &mut Regions, numbers: &Numbers, read: &[u8], answer: u32) 
     }
 }
 
+/// The longest run if it were cut after each eight bytes, counted from the end of the strand.
+fn longest_inside_eights(read: &[u8]) -> usize {
+    let (front, eights) = read.split_at(read.len() % 32);
+    eights
+        .chunks(32)
+        .map(longest_run)
+        .fold(longest_run(front), usize::max)
+}
+
 fn note_screen(regions: &mut Regions, numbers: &Numbers, read: &[u8], passed: bool) {
     let (run, n, g) = (longest_run(read), read.len(), 1000 * gc(read));
     let (m, lo, hi) = (
@@ -279,6 +289,11 @@ fn note_screen(regions: &mut Regions, numbers: &Numbers, read: &[u8], passed: bo
     } else {
         let gc_fine = lo * n <= g && g <= hi * n;
         regions.note_if(run == m + 1 && gc_fine, "13: run = m + 1");
+        regions.note_if(
+            run == m + 1 && gc_fine && longest_inside_eights(read) <= m,
+            "13: run = m + 1 over the end of eight bytes",
+        );
+        regions.note_if(run >= 64, "13: run of eight bytes and more");
         regions.note_if(
             run <= m && lo > 0 && g < lo * n && (lo - 1) * n <= g,
             "13: lo just missed",
