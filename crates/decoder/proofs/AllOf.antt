@@ -1,6 +1,6 @@
 -- What holds of each element of a list, of any kind, and what stands in a list. Assumes nothing.
 use mathlib.Core.Path.{refl, ap}
-use mathlib.Core.List.{List, [], _∷_, _++_, map}
+use mathlib.Core.List.{List, [], _∷_, map}
 use mathlib.Core.Logic.{inl, inr}
 use Prim.Native.Nat.{ℕ, zero, suc}
 use lib.ListN.{take}
@@ -21,10 +21,6 @@ module _ {A : Type 0} (P : A → Type 0) where
   all-front zero l h = tt
   all-front (suc n) [] h = tt
   all-front (suc n) (x ∷ l) h = (h .0, all-front n l (h .1))
-
-  pub all-snoc : (l : List A) (x : A) → All P l → P x → All P (l ++ (x ∷ []))
-  all-snoc [] x h p = (p, tt)
-  all-snoc (y ∷ l) x h p = (h .0, all-snoc l x (h .1) p)
 
   pub all-among : (l : List A) → All P l → (x : A) → Among x l → P x
   all-among [] h x a = absurd a

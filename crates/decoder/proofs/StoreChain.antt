@@ -8,6 +8,7 @@ use native.Mathlib.Nat.{zero-mul}
 use lib.ListN.{take}
 use lib.Seq.{take-nil}
 use Rattle.field.specs.Bytes.{All}
+use Rattle.field.proofs.ByteLists.{all-append}
 use Rattle.field.proofs.Tests.{either}
 use Rattle.droplet.specs.declared.card.Card.{Card}
 use Rattle.droplet.specs.Questions.{cardRefusal}
@@ -17,7 +18,6 @@ use Rattle.decoder.specs.declared.store.StoreAnswer.the-variants as repl
 use Rattle.decoder.specs.Store.{Record, recordsText, Stored, accepted, repeat, refusal, storeAnswer, keptAnswer, keptBuffer, storeRead, StorePromise}
 use Rattle.decoder.specs.Restorer.{hasSeed}
 use Rattle.decoder.specs.Demand3.{keptReading, legalReads, firstOfSeed, storedRecords, Holds, Call, readsOf, nextCount, Chained, lastBuffer, lastCount}
-use Rattle.decoder.proofs.AllOf.{all-snoc}
 use Rattle.decoder.proofs.RecordBytes.{IsRecord}
 use Rattle.decoder.proofs.LegalRead.{InReading, read-recordable}
 use Rattle.decoder.proofs.StoreCall.{room, countAfter, grown, HoldsAfter, held-fits, reading-holds}
@@ -35,7 +35,7 @@ grown-first rs (droplet s p) later =
 pub grown-all : (P : Record → Type 0) (rs : List Record) (o : Reading) → InReading P o → All P rs → All P (grown rs o)
 grown-all P rs (refused q) f good = good
 grown-all P rs (droplet s p) f good =
-    elim (either (hasSeed s rs)) [ inl e ↦ rw e good | inr e ↦ rw e (all-snoc P rs (record { seed = s; payload = p }) good f) ]
+    elim (either (hasSeed s rs)) [ inl e ↦ rw e good | inr e ↦ rw e (all-append P rs (record { seed = s; payload = p } ∷ []) good (f, tt)) ]
 
 count-next : (count : ℕ) (a : StoreAnswer) → nextCount count a ≡ countAfter count (storeAnswer a)
 count-next count (reply.Accepted n) = refl

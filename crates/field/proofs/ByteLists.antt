@@ -23,10 +23,6 @@ module _ (P : ℕ → Type 0) where
   all-from [] d h = tt
   all-from (x ∷ xs) d h = (h 0 (zero-lt-suc (length xs)), all-from xs d (λ i b. h (suc i) (omega arith)))
 
-  pub all-append : (a b : List ℕ) → All P a → All P b → All P (a ++ b)
-  all-append [] b ha hb = hb
-  all-append (x ∷ xs) b ha hb = (ha .0, all-append xs b (ha .1) hb)
-
   pub all-take : (n : ℕ) (l : List ℕ) → All P l → All P (take n l)
   all-take zero l h = tt
   all-take (suc n) [] h = tt
@@ -36,6 +32,10 @@ module _ (P : ℕ → Type 0) where
   all-drop zero l h = h
   all-drop (suc n) [] h = tt
   all-drop (suc n) (x ∷ xs) h = all-drop n xs (h .1)
+
+pub all-append : {A : Type 0} (P : A → Type 0) (a b : List A) → All P a → All P b → All P (a ++ b)
+all-append P [] b ha hb = hb
+all-append P (x ∷ xs) b ha hb = (ha .0, all-append P xs b (ha .1) hb)
 
 pub zeros-bytes : (n : ℕ) → AllBytes (replicate n 0)
 zeros-bytes zero = tt
