@@ -1,7 +1,7 @@
 /* Runs document 01's bench example through all five functions and compares every number and every byte with the values that
  * stand there or follow from its rules: reads card P, writes strands of file Q, checks and stores the reads of seeds 2, 1, 3,
- * and restores. On the way it has calls refused. Each lent buffer and answer ends in bytes that must survive, and all of them
- * must survive a refusal. Returns 1 if anything differs.
+ * and restores. On the way it has calls refused, and runs document 02's example of runs over the joints (Item 1). Each lent
+ * buffer and answer ends in bytes that must survive, and all of them must survive a refusal. Returns 1 if anything differs.
  *
  *   capi_bench bench.card */
 #include <stdio.h>
@@ -168,6 +168,39 @@ static void check_reads(const struct pool *p)
     }
 }
 
+/* Three seeds in schedule order. The first one's strand ends in TTT and meets the T of the site behind it, the second one's
+ * starts with CCC and meets the C of the site before it: runs of four, which m = 4 allows and m = 3 does not. */
+static void joints(const struct pool *p)
+{
+    static const char *const strands[3] = {
+        "AGGTGCGTGTGATCACTGCAGAAGGTTT", "CCCTATCTCTACGGAGCATGACGATGCC", "GGTGCGTGTGATCACAAGCTGTTATTTA"};
+    static const uint32_t start = 0x2B9BB8D1;
+    static const uint64_t at_4[4] = {0, 1, 1, 0x573771A2}, at_3[4] = {0, 1, 3, 0x5CDDC64D};
+    struct pool run_3 = *p, run_4 = *p;
+    uint8_t line[LINE + SPARE], out[RECORD + SPARE];
+    uint32_t list[D];
+    uint64_t a[5];
+    run_3.m = 3;
+    run_4.m = 4;
+    for (int i = 0; i < 3; i++) {
+        const uint8_t *read = (const uint8_t *)strands[i];
+        lend(out, sizeof out);
+        number("check at m = 3", fountain_check_read(CARD(&run_3), read, N, out, sizeof out), i < 2 ? 13 : 0);
+        if (i < 2)
+            kept("the buffer of a read refused at a joint", out, sizeof out);
+        number("check at m = 4", fountain_check_read(CARD(&run_4), read, N, out, sizeof out), 0);
+    }
+    lend(line, sizeof line);
+    lend(a, sizeof a);
+    number("write at m = 4", fountain_write(CARD(&run_4), Q, 4, start, 1, 3, line, sizeof line, list, D, a), 0);
+    answers("the answer at m = 4", a, at_4, 4);
+    bytes("the strand that ends in TTT", line, strands[0], N);
+    number("write at m = 3", fountain_write(CARD(&run_3), Q, 4, start, 1, 3, line, sizeof line, list, D, a), 0);
+    answers("the answer at m = 3", a, at_3, 4);
+    bytes("the strand with no run of four", line, strands[2], N);
+    kept("the buffer past the strand at m = 3", line + LINE, SPARE);
+}
+
 /* Stores the reads of seeds 2, 1 and 3 in this order, each twice. The shelf has no space for a fourth record. */
 static void store_reads(const struct pool *p, uint8_t *store, size_t store_len)
 {
@@ -267,6 +300,7 @@ int main(int argc, char **argv)
     write_one(&p, 3, READS[2]);
     write_ends(&p);
     check_reads(&p);
+    joints(&p);
     lend(store, sizeof store);
     store_reads(&p, store, sizeof store);
     store_other_payload(&p);

@@ -29,8 +29,8 @@ extern "C" {
  *   F            file length in bytes, 1 to 8,388,608
  *   L            segment length in bytes, 1 to 64
  *   R            check bytes, 2 or 4
- *   m            longest run of one base allowed, 1 to 20
- *   lo, hi       limits of C and G in thousandths, lo <= hi <= 1000
+ *   m            longest run of one base allowed, 1 to 20, counted through the sites as below
+ *   lo, hi       limits of C and G in thousandths of the strand's own n bases, lo <= hi <= 1000
  *   weights      the degree weights: four bytes each, most significant first (a card has them from its byte 20 on)
  *   weights_len  how many bytes these are, 4 * D
  *
@@ -39,6 +39,11 @@ extern "C" {
  *    2  F, L or R out of range, or more than 131,072 segments
  *    3  m, lo or hi out of range
  *    4  weights not a multiple of 4 bytes, none, more than 1,024 or than there are segments, or their sum 0 or over 32 bits
+ *
+ * The order that goes to synthesis has an annealing site on each side of a strand: GTTTCAGAGTTCTACAGTCCGACGATC before it and
+ * TGGAATTCTCGGGTGCCAAGG after it. A run of one base counts, with its whole length in the order, if at least one of its bases is
+ * the strand's: a strand that ends in TTT has a run of 4 with the T of the site, one that starts with CCC a run of 4 with the C. A
+ * run of a site alone does not count.
  *
  * D is the number of weights, K the number of segments (F divided by L, rounded up), n the strand length, 4 * (4 + L + R)
  * letters. A record is a seed (four bytes, most significant first) and L payload bytes: 4 + L bytes. */
@@ -96,7 +101,7 @@ uint32_t fountain_write(uint32_t F, uint8_t L, uint8_t R, uint8_t m, uint16_t lo
  *   10  a letter that is none of A, C, G, T (N and small letters are none)
  *   11  the check sums are not all 0
  *   12  the seed is 0
- *   13  the screen is not passed: a run longer than m, or C and G outside lo and hi
+ *   13  the screen is not passed: a run longer than m, counted through the sites, or C and G outside lo and hi
  *   16  the read is accepted, but out is shorter than 4 + L bytes */
 uint32_t fountain_check_read(uint32_t F, uint8_t L, uint8_t R, uint8_t m, uint16_t lo, uint16_t hi,
                              const uint8_t *weights, size_t weights_len,

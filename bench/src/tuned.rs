@@ -1,6 +1,6 @@
-//! Document 01 in Rust, tuned for speed, behind the same interface as the proved archives: the same buffers, the same checks in
-//! each call, no memory of its own between calls and no allocation. It is tuned where plain code would be unfair: letters, C and
-//! G, doubling and parity by tables that are computed when it is compiled, and a bitmap for large sets.
+//! Documents 01 and 02 (Item 1) in Rust, tuned for speed, behind the same interface as the proved archives: the same buffers, the
+//! same checks in each call, no memory of its own between calls and no allocation. It is tuned where plain code would be unfair:
+//! letters, C and G, doubling and parity by tables that are computed when it is compiled, and a bitmap for large sets.
 
 #[derive(Clone, Copy)]
 pub struct Card {
@@ -178,9 +178,10 @@ fn parity_four(message: &[u8]) -> u32 {
     rest
 }
 
+/// Of the sites only the bases beside the strand can join a run of it: a single C before it, a single T after it.
 fn screen(card: &Card, word: &[u8]) -> bool {
-    let mut last = 4u8;
-    let (mut run, mut longest, mut gc) = (0u32, 0u32, 0u32);
+    let mut last = 1u8;
+    let (mut run, mut longest, mut gc) = (1u32, 0u32, 0u32);
     for &b in word {
         for base in [b >> 6, (b >> 4) & 3, (b >> 2) & 3, b & 3] {
             run = if base == last { run + 1 } else { 1 };
@@ -188,6 +189,9 @@ fn screen(card: &Card, word: &[u8]) -> bool {
             last = base;
         }
         gc += GC[b as usize] as u32;
+    }
+    if last == 3 {
+        longest = longest.max(run + 1);
     }
     let n = 4 * word.len() as u32;
     longest <= card.m as u32 && card.lo as u32 * n <= 1000 * gc && 1000 * gc <= card.hi as u32 * n

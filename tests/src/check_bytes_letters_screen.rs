@@ -1,10 +1,12 @@
-//! Section "Check bytes, letters, screen", with the read check and its C form.
+//! Section "Check bytes, letters, screen", with the read check and its C form,
+//! and Item 1 of document 02, "Runs over the joints".
 
 use crate::pool_card::{number_of_bytes, Handed};
 use crate::questions::{
     ask, question_10, question_11, question_12, question_13, question_16_c_form, question_9,
     Refusal,
 };
+use std::ops::Range;
 
 // ---------------------------------------------------------------- the field
 
@@ -197,19 +199,42 @@ pub fn bytes_of_letters(letters: &[u8]) -> Option<Vec<u8>> {
 
 // ---------------------------------------------------------------- screen
 
-/// "A run is counted inside the strand alone": the longest run of one letter.
-pub fn longest_run(letters: &[u8]) -> usize {
-    let mut longest = 0;
-    let mut run = 0;
-    for i in 0..letters.len() {
-        if i > 0 && letters[i] == letters[i - 1] {
-            run += 1;
-        } else {
-            run = 1;
+/// Document 02, Item 1: "The order that goes to synthesis adds annealing sites:
+/// GTTTCAGAGTTCTACAGTCCGACGATC before the strand"
+pub const SITE_BEFORE: &[u8; 27] = b"GTTTCAGAGTTCTACAGTCCGACGATC";
+
+/// "and TGGAATTCTCGGGTGCCAAGG after it"
+pub const SITE_AFTER: &[u8; 21] = b"TGGAATTCTCGGGTGCCAAGG";
+
+/// "The order that goes to synthesis": the letters of site, strand and site.
+pub fn order(strand: &[u8]) -> Vec<u8> {
+    [SITE_BEFORE, strand, SITE_AFTER].concat()
+}
+
+/// All runs of one letter, each as long as it gets, as the places they take.
+pub fn runs(letters: &[u8]) -> Vec<Range<usize>> {
+    let mut runs = Vec::new();
+    let mut start = 0;
+    for end in 1..=letters.len() {
+        if end == letters.len() || letters[end] != letters[start] {
+            runs.push(start..end);
+            start = end;
         }
-        longest = longest.max(run);
     }
-    longest
+    runs
+}
+
+/// Document 02, Item 1: "From now on a run counts if at least one of its bases
+/// belongs to the strand, and it is counted through the sites." The length of
+/// the longest run that counts, 0 if none does.
+pub fn longest_run(strand: &[u8]) -> usize {
+    let of_the_strand = SITE_BEFORE.len()..SITE_BEFORE.len() + strand.len();
+    runs(&order(strand))
+        .into_iter()
+        .filter(|run| run.clone().any(|place| of_the_strand.contains(&place)))
+        .map(|run| run.len())
+        .max()
+        .unwrap_or(0)
 }
 
 /// "where g counts C and G over the n bases"
@@ -231,7 +256,9 @@ pub fn gc_table() -> [u8; 256] {
 }
 
 /// "The screen passes if no run of one base is longer than m and lo·n ≤ 1000·g
-/// ≤ hi·n, where g counts C and G over the n bases."
+/// ≤ hi·n, where g counts C and G over the n bases." In document 02, Item 1:
+/// "The GC rule still covers only the strand's n bases. Writer and read check
+/// use the same rule".
 pub fn screen(letters: &[u8], m: u8, lo: u16, hi: u16) -> bool {
     let n = letters.len();
     let g = count_gc(letters);
@@ -573,20 +600,167 @@ mod tests {
     fn upper_gc_limit() {
         assert!(screen(SEED_1, 15, 0, 215));
         assert!(!screen(SEED_1, 15, 0, 214));
-        assert!(screen(b"CGCG", 1, 1000, 1000));
-        assert!(!screen(b"CGCA", 1, 751, 1000));
-        assert!(screen(b"CGCA", 1, 750, 750));
-        assert!(screen(b"ATAT", 1, 0, 0));
+        assert!(screen(b"GCGC", 1, 1000, 1000));
+        assert!(!screen(b"GCGA", 1, 751, 1000));
+        assert!(screen(b"GCGA", 1, 750, 750));
+        assert!(screen(b"TATA", 1, 0, 0));
     }
 
     #[test]
-    fn runs() {
-        assert_eq!(longest_run(b""), 0);
-        assert_eq!(longest_run(b"A"), 1);
+    fn runs_of_the_strand() {
         assert_eq!(longest_run(b"ACCA"), 2);
         assert_eq!(longest_run(b"ACCCGGGG"), 4);
         assert_eq!(longest_run(b"TTTA"), 3);
         assert_eq!(longest_run(b"AATAA"), 2);
+    }
+
+    #[test]
+    fn runs_are_as_long_as_they_get() {
+        assert_eq!(runs(b""), []);
+        assert_eq!(runs(b"A"), [0..1]);
+        assert_eq!(runs(b"ACCCGG"), [0..1, 1..4, 4..6]);
+    }
+
+    // ------------------------------------------------------------ joints
+
+    /// Document 02, Item 8: "48 bases longer than n, with sites as in Item 1".
+    #[test]
+    fn the_order_has_48_bases_more() {
+        assert_eq!(SITE_BEFORE.len() + SITE_AFTER.len(), 48);
+        assert_eq!(
+            order(b"ACGT"),
+            b"GTTTCAGAGTTCTACAGTCCGACGATCACGTTGGAATTCTCGGGTGCCAAGG"
+        );
+    }
+
+    /// The first site ends in C, the second starts with T.
+    #[test]
+    fn one_base_and_none() {
+        assert_eq!(longest_run(b""), 0);
+        assert_eq!(longest_run(b"A"), 1);
+        assert_eq!(longest_run(b"C"), 2);
+        assert_eq!(longest_run(b"G"), 1);
+        assert_eq!(longest_run(b"T"), 2);
+    }
+
+    #[test]
+    fn runs_through_the_joints() {
+        assert_eq!(longest_run(b"CCCG"), 4);
+        assert_eq!(longest_run(b"GCCC"), 3);
+        assert_eq!(longest_run(b"ATTT"), 4);
+        assert_eq!(longest_run(b"TTTA"), 3);
+        assert_eq!(longest_run(b"CAT"), 2);
+        assert_eq!(longest_run(b"CCCCC"), 6);
+        assert_eq!(longest_run(b"TTTTT"), 6);
+        assert_eq!(longest_run(b"AAAAA"), 5);
+    }
+
+    /// The sites have TTT, CC, AA and GGG; none of these counts.
+    #[test]
+    fn runs_in_a_site_alone_do_not_count() {
+        assert_eq!(longest_run(b"GTAG"), 1);
+        assert!(screen(b"GTAG", 1, 500, 500));
+        assert_eq!(longest_run(b"GTTAG"), 2);
+    }
+
+    /// The same from each base of the strand outwards, for all short strands.
+    #[test]
+    fn longest_run_by_walking_outwards() {
+        for length in 0..=7u32 {
+            for number in 0..4usize.pow(length) {
+                let strand: Vec<u8> = (0..length)
+                    .map(|i| b"ACGT"[number >> (2 * i) & 3])
+                    .collect();
+                let order = [&SITE_BEFORE[..], &strand, &SITE_AFTER[..]].concat();
+                let around = |place: usize| {
+                    let same = |other: &&u8| **other == order[place];
+                    let before = order[..place].iter().rev().take_while(same).count();
+                    before + order[place..].iter().take_while(same).count()
+                };
+                let expected = (27..27 + strand.len()).map(around).max();
+                assert_eq!(longest_run(&strand), expected.unwrap_or(0), "{strand:?}");
+            }
+        }
+    }
+
+    /// The longest run inside the strand alone, as it was before Item 1.
+    fn inside(strand: &[u8]) -> usize {
+        let lengths = strand.chunk_by(|a, b| a == b).map(|run| run.len());
+        lengths.max().unwrap_or(0)
+    }
+
+    /// A read under P's sizes with check sums 0 and a seed, but for the screen.
+    fn find_read(is_wanted: impl Fn(&[u8]) -> bool) -> Vec<u8> {
+        (1..1_000_000u32)
+            .map(|i| strand_bytes(i.wrapping_mul(0x9E37_79B1), &[i as u8], 2))
+            .map(|bytes| letters_of_bytes(&bytes))
+            .find(|letters| is_wanted(letters))
+            .expect("there is such a read")
+    }
+
+    /// P with this m, and no limits for C and G.
+    fn with_m(m: u8) -> Handed<'static> {
+        Handed {
+            m,
+            lo: 0,
+            hi: 1000,
+            ..P
+        }
+    }
+
+    /// Document 02, Item 1: "At m=3 a strand ending in TTT is refused; one
+    /// ending in ATT passes at that joint."
+    #[test]
+    fn strand_ending_in_ttt() {
+        let fine = |read: &[u8]| inside(read) <= 3 && !read.starts_with(b"CCC");
+        let refused = find_read(|read| fine(read) && read.ends_with(b"TTT"));
+        assert_eq!(read_check(&with_m(3), &refused), Err(Refusal(13)));
+        assert!(read_check(&with_m(4), &refused).is_ok());
+        let passed = find_read(|read| fine(read) && read.ends_with(b"ATT"));
+        assert!(read_check(&with_m(3), &passed).is_ok());
+    }
+
+    /// The same at the other joint, where the site ends in ATC.
+    #[test]
+    fn strand_starting_with_ccc() {
+        let fine = |read: &[u8]| inside(read) <= 3 && !read.ends_with(b"TTT");
+        let refused = find_read(|read| fine(read) && read.starts_with(b"CCC"));
+        assert_eq!(read_check(&with_m(3), &refused), Err(Refusal(13)));
+        assert!(read_check(&with_m(4), &refused).is_ok());
+        let passed = find_read(|read| fine(read) && read.starts_with(b"CCG"));
+        assert!(read_check(&with_m(3), &passed).is_ok());
+        let passed = find_read(|read| fine(read) && read.starts_with(b"GCC"));
+        assert!(read_check(&with_m(3), &passed).is_ok());
+    }
+
+    /// For small m: a read that is refused for one joint alone passes at m + 1.
+    #[test]
+    fn refused_for_one_joint_alone() {
+        for m in 1..=4 {
+            let many = usize::from(m);
+            let (start, end) = (vec![b'C'; many], vec![b'T'; many]);
+            for (at_start, at_end) in [(true, false), (false, true)] {
+                let read = find_read(|read| {
+                    inside(read) <= many
+                        && read.starts_with(&start) == at_start
+                        && read.ends_with(&end) == at_end
+                });
+                assert_eq!(read_check(&with_m(m), &read), Err(Refusal(13)));
+                assert!(read_check(&with_m(m + 1), &read).is_ok());
+            }
+        }
+    }
+
+    /// The sites have TTT and GGG, and a read can pass at m = 1 and at m = 2 all
+    /// the same.
+    #[test]
+    fn passed_between_sites_with_longer_runs() {
+        let off_the_joints = |read: &[u8]| read[0] != b'C' && read[27] != b'T';
+        let read = find_read(|read| inside(read) == 1 && off_the_joints(read));
+        assert!(read_check(&with_m(1), &read).is_ok());
+        let read = find_read(|read| inside(read) == 2 && off_the_joints(read));
+        assert!(read_check(&with_m(2), &read).is_ok());
+        assert_eq!(read_check(&with_m(1), &read), Err(Refusal(13)));
     }
 
     /// The table's entries add up to the count over the letters.

@@ -1,8 +1,9 @@
 //! Fountain strands: writer, read check, shelf and restorer.
 //!
-//! A second implementation of document 01, written for comparison in tests.
-//! Clarity comes before speed. Each module is named after a section of
-//! document 01, and each function quotes the sentence it renders.
+//! A second implementation of documents 01 and 02, written for comparison in
+//! tests; of document 02 it has the items that have landed. Clarity comes before
+//! speed. Each module is named after a section of document 01, and each function
+//! quotes the sentence it renders, of document 01 where no other is named.
 //!
 //! Every public call (card reading, read check, its C form, writing, shelving,
 //! restoring) takes slices and answers a struct or enum, or a `Refusal` holding

@@ -1,5 +1,5 @@
 //! Every bench example of document 01, over the public calls alone, in its
-//! order.
+//! order; then the examples of document 02, Item 1.
 
 use second::check_bytes_letters_screen::{
     check_bytes, check_sums, count_gc, letters_of_bytes, longest_run, strand_bytes,
@@ -238,4 +238,63 @@ fn five_lines() {
         shelve(&handed(&card), b"AAAN", &mut [0; 50], 0),
         Err(Refusal(9))
     );
+}
+
+/// A card for a file of one byte, with R = 2, m = 3 and no limits for C and G.
+fn card_of_m_3() -> Vec<u8> {
+    hex("01 0006 00000001 01 02 / 02 0005 03 0000 03E8 / 03 0004 00000001")
+}
+
+/// Under `card_of_m_3`, what read check and shelf, which agree, say of the strand
+/// of this seed and file 27. The writer prints it just if they take it, and the
+/// listing counts it so.
+fn answer_at_m_3(seed: u32, strand: &str) -> Result<(), Refusal> {
+    let card = card_of_m_3();
+    let handed = handed(&card);
+    let read = strand.as_bytes();
+    assert_eq!(letters_of_bytes(&strand_bytes(seed, &[0x27], 2)), read);
+
+    let answer = read_check(&handed, read).map(|droplet| {
+        assert_eq!((droplet.seed, droplet.payload[0]), (seed, 0x27));
+    });
+    assert_eq!(
+        shelve(&handed, read, &mut [0; 5], 0),
+        answer.map(|()| Shelved::Accepted { count: 1 })
+    );
+    let mut printed = [b'?'; 29];
+    let written = write(&handed, &[0x27], seed, 1, 1, &mut printed, &mut [0]).unwrap();
+    let sheet = listing(Some(&card), read);
+    if answer.is_ok() {
+        assert_eq!((written.stop, written.made), (Stop::Done, 1));
+        assert_eq!(printed, format!("{strand}\n").as_bytes());
+        assert!(sheet.starts_with("reads 1 accepted 1 repeated 0 refused 0\n"));
+    } else {
+        assert_eq!((written.stop, written.made), (Stop::Spent, 0));
+        assert_eq!(printed, [b'?'; 29]);
+        assert!(sheet.starts_with("reads 1 accepted 0 repeated 0 refused 1\n"));
+    }
+    answer
+}
+
+/// Document 02, Item 1: "At m=3 a strand ending in TTT is refused; one ending in
+/// ATT passes at that joint."
+#[test]
+fn ends_of_strands_at_m_3() {
+    let ttt = "TTACGTGTTATCGAGAAGCTGCCTGTTT";
+    assert_eq!(answer_at_m_3(0xF1BB_CD88, ttt), Err(Refusal(13)));
+    assert_eq!(longest_run(ttt.as_bytes()), 4);
+    let att = "AAGGACGGCTTAGACGAGCTTAAGAATT";
+    assert_eq!(answer_at_m_3(0x0A1A_7C86, att), Ok(()));
+    assert_eq!(longest_run(att.as_bytes()), 3);
+}
+
+/// The same at the first joint, where the site ends in a single C.
+#[test]
+fn starts_of_strands_at_m_3() {
+    let ccc = "CCCGTGAGCTTCCCGCAGCTAGCCGCAG";
+    assert_eq!(answer_at_m_3(0x56E2_7D59, ccc), Err(Refusal(13)));
+    assert_eq!(longest_run(ccc.as_bytes()), 4);
+    let gcc = "GCCACTTATGTAGGTTAGCTCGTGTGAG";
+    assert_eq!(answer_at_m_3(0x947C_ECAF, gcc), Ok(()));
+    assert_eq!(longest_run(gcc.as_bytes()), 2);
 }

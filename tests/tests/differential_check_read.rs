@@ -4,6 +4,7 @@ mod differential;
 
 use differential::cards;
 use differential::check_read::{Case, REGIONS};
+use differential::joints;
 use differential::lent::Lent;
 use differential::random::Random;
 use differential::reads;
@@ -84,6 +85,7 @@ fn check_read() {
             cards::REGIONS,
             cards::HANDED_REGIONS,
             reads::REGIONS,
+            joints::REGIONS,
             REGIONS,
         ],
         case,

@@ -3,6 +3,7 @@
 mod differential;
 
 use differential::cards::{self, Numbers};
+use differential::joints;
 use differential::lent::{hex, Lent};
 use differential::random::Random;
 use differential::reads;
@@ -361,6 +362,7 @@ fn store() {
             cards::REGIONS,
             cards::HANDED_REGIONS,
             reads::REGIONS,
+            joints::REGIONS,
             shelves::REGIONS,
             REGIONS,
         ],

@@ -3,11 +3,14 @@
 mod differential;
 
 use differential::cards::{self, Numbers};
+use differential::joints;
 use differential::lent::{hex, Lent};
 use differential::random::Random;
 use differential::reads;
 use differential::run::{run, Regions};
 use differential::sizes;
+use second::check_bytes_letters_screen::letters_of_bytes;
+use second::droplet::{payload, set_of_segments};
 use second::writer::strand_letters;
 use second::{schedule_step, Stop};
 use std::iter;
@@ -64,10 +67,15 @@ struct After {
 impl Case {
     fn any(random: &mut Random) -> Case {
         let mut numbers = sizes::any_accepted(random);
-        let file = any_file(random, &numbers);
-        let start = reads::any_seed(random);
-        if random.once_in(3) {
-            fit_screen(random, &mut numbers, &file, start);
+        let mut file = any_file(random, &numbers);
+        let mut start = reads::any_seed(random);
+        if random.once_in(6) {
+            let seed = print_at_joint(random, &numbers, &mut file);
+            start = (0..random.below(3)).fold(seed, |seed, _| seed_before(seed));
+            fit_screen(random, &mut numbers, &file, seed);
+        } else if random.once_in(3) {
+            let seed = (0..random.below(4)).fold(start, |seed, _| schedule_step(seed));
+            fit_screen(random, &mut numbers, &file, seed);
         }
         let wanted = random.one_of(&[0, 1, 1, 2, 3, 6]);
         let budget = random.one_of(&[0, 1, 1, 2, 3, 5, 8, 12]);
@@ -279,7 +287,10 @@ impl Case {
         cards::note(regions, &self.numbers, after.number);
         let needed = self.wanted as usize * (self.numbers.n() + 1);
         match after.number {
-            0 => self.note_written(regions, after.answer, needed),
+            0 => {
+                self.note_written(regions, after.answer, needed);
+                self.note_strands(regions, after);
+            }
             5 => {
                 regions.note_if(
                     self.file.len() + 1 == self.numbers.f as usize,
@@ -339,11 +350,42 @@ impl Case {
         regions.note_if(self.out.len() > needed, "out longer");
         regions.note_if(self.list.len() == self.numbers.d(), "list just long enough");
         regions.note_if(self.list.len() > self.numbers.d(), "list longer");
-        let one_fell_out = iter::successors(Some(self.start), |&seed| Some(schedule_step(seed)))
+        let one_fell_out = seeds_from(self.start)
             .take(tried as usize)
             .any(|seed| seed >= 1 << 31);
         regions.note_if(one_fell_out, "a one fell out of the seed");
     }
+
+    /// Notes the joints of the first strands tried, one of which the screen may be fitted to. A strand passed if the next line
+    /// starts with its seed.
+    fn note_strands(&self, regions: &mut Regions, after: &After) {
+        let [_, made, tried, _] = after.answer;
+        let n = self.numbers.n();
+        let mut lines = after.out.chunks(n + 1).take(made as usize).peekable();
+        for seed in seeds_from(self.start).take(4.min(tried as usize)) {
+            let first_letters = letters_of_bytes(&seed.to_be_bytes());
+            match lines.next_if(|line| line.starts_with(&first_letters)) {
+                Some(line) => joints::note(regions, &self.numbers, &line[..n], true),
+                None => {
+                    let strand = strand_letters(&self.numbers.handed(), &self.file, seed);
+                    joints::note(regions, &self.numbers, &strand, false);
+                }
+            }
+        }
+    }
+}
+
+/// The seed that steps to this one. The low bit is 1 just if a one fell out.
+fn seed_before(seed: u32) -> u32 {
+    if seed & 1 == 1 {
+        return (seed ^ 0xC5) >> 1 | 1 << 31;
+    }
+    seed >> 1
+}
+
+/// The schedule from a seed on.
+fn seeds_from(start: u32) -> impl Iterator<Item = u32> {
+    iter::successors(Some(start), |&seed| Some(schedule_step(seed)))
 }
 
 #[rustfmt::skip]
@@ -373,12 +415,23 @@ fn random_length(case: &Case) -> usize {
     }
 }
 
-/// Sets the screen so that one of the first seeds' strands just passes or just misses it.
-fn fit_screen(random: &mut Random, numbers: &mut Numbers, file: &[u8], start: u32) {
-    let mut seed = start;
-    for _ in 0..random.below(4) {
-        seed = schedule_step(seed);
+/// A seed, and a file changed so that its strand has a run through a joint, if its set has a segment that lies within F.
+fn print_at_joint(random: &mut Random, numbers: &Numbers, file: &mut [u8]) -> u32 {
+    let l = usize::from(numbers.l);
+    let (seed, wanted) = joints::any_droplet(random, l, numbers.r);
+    let set = set_of_segments(seed, &numbers.weights, numbers.k());
+    let now = payload(&set, file, numbers.l);
+    let whole = file.len() / l;
+    if let Some(&segment) = set.iter().find(|&&segment| segment < whole) {
+        for i in 0..l {
+            file[segment * l + i] ^= now[i] ^ wanted[i];
+        }
     }
+    seed
+}
+
+/// Sets the screen so that the seed's strand just passes or just misses it.
+fn fit_screen(random: &mut Random, numbers: &mut Numbers, file: &[u8], seed: u32) {
     let strand = strand_letters(&numbers.handed(), file, seed);
     if random.once_in(3) {
         reads::let_miss(random, numbers, &strand);
@@ -436,6 +489,7 @@ fn write() {
             cards::REGIONS,
             cards::HANDED_REGIONS,
             sizes::REGIONS,
+            joints::REGIONS,
             REGIONS,
         ],
         case,

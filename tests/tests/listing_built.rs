@@ -283,6 +283,26 @@ fn card_too_large() {
 }
 
 #[test]
+fn runs_over_the_joints() {
+    // Strands of file 27 at m = 3: those that end in TTT or start with CCC are refused, with ATT and GCC they pass.
+    let mut card = card_with(1, 1, 1);
+    (card[8], card[12]) = (2, 3);
+    let input = b"TTACGTGTTATCGAGAAGCTGCCTGTTT
+AAGGACGGCTTAGACGAGCTTAAGAATT
+CCCGTGAGCTTCCCGCAGCTAGCCGCAG
+GCCACTTATGTAGGTTAGCTCGTGTGAG
+";
+    let sheet = "segments 1 present 1 sweeps 2 contradictions 0\n";
+    assert_eq!(run("joints", Some(&card), input), reads(4, 2, 0, 2) + sheet);
+    // At m = 4 all of them pass.
+    card[12] = 4;
+    assert_eq!(
+        run("joints-4", Some(&card), input),
+        reads(4, 4, 0, 0) + sheet
+    );
+}
+
+#[test]
 fn full_shelf() {
     // 65,536 bytes hold 963 records of 68 bytes; the reads past them are refused, repeats of those on the shelf are not.
     let card = card_with(64, 64, 1);

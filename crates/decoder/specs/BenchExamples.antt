@@ -1,5 +1,5 @@
--- Document 01, "Bench examples": all starred lines, each part of each, as rows of one list under one proposition, over the
--- definitions that the contracts cite. Assumes nothing.
+-- Document 01, "Bench examples": all starred lines, each part of each, and then document 02's examples, as rows of one list under
+-- one proposition, over the definitions that the contracts cite. Assumes nothing.
 use mathlib.Core.Path.{_≡_, refl}
 use mathlib.Core.List.{List, [], _∷_}
 use Prim.Native.Nat.{ℕ, zero, suc}
@@ -13,8 +13,9 @@ use Rattle.droplet.specs.declared.card.Card.{Card}
 use Rattle.droplet.specs.PoolCard.{numberAt, wellFormed, cardNumbers, cardWeights, weightCount, weightAt, firstWeights, segmentCount, strandBytes}
 use Rattle.droplet.specs.Questions.{sizesRight, limitsRight, weightsRight, cardRefusal, cardReadingRefusal, CardRead, cardReading}
 use Rattle.droplet.specs.Droplet.{degreeFrom, degree, member, pickFrom, degreeOf, segmentsOf, segment, payload}
-use Rattle.strand.specs.Letters.{letterOf, letterBits, allLetters, byteBases, wordBases, byteLetters, wordLetters, lettersByte, lettersWord}
-use Rattle.strand.specs.Screen.{longestFrom, longestRun, gcCount, withinLimits, screenPasses}
+use Rattle.strand.specs.Letters.{letterOf, letterBits, textLetters, lettersBases, allLetters, byteBases, wordBases, byteLetters, wordLetters, lettersByte, lettersWord}
+use Rattle.strand.specs.Sites.{siteBefore, siteAfter}
+use Rattle.strand.specs.Screen.{orderOf, withBase, longestOf, longestRun, gcCount, withinLimits, screenPasses}
 use Rattle.strand.specs.ReadCheck.{Reading, droplet, refused, sumsZero, wordReading, lettersReading, readCheck, strandWord}
 use Rattle.strand.specs.Writer.{seedWord}
 use Rattle.decoder.specs.Store.{accepted, repeat, Kept, kept, recordBytes, recordText, recordPayload, recordFrom, records, sameBytes, findSeed, appended, compared, storeReading, storeRead}
@@ -96,6 +97,26 @@ abbrev pub letters3 : List ℕ
 letters3 =
     65 ∷ 65 ∷ 65 ∷ 65 ∷ 65 ∷ 65 ∷ 65 ∷ 65 ∷ 65 ∷ 65 ∷ 65 ∷ 65 ∷ 65 ∷ 65 ∷ 65 ∷ 84 ∷ 65 ∷ 71 ∷ 67 ∷ 84 ∷ 67 ∷ 71 ∷ 65 ∷ 65 ∷ 67 ∷ 65 ∷ 67 ∷ 65 ∷ []
 
+-- document 02, Item 1: strands that make a run with the site behind or before them or just miss one, and two with no run over 2 and
+-- over 1, though both sites have runs of 3
+abbrev pub endsInTTT : List ℕ
+endsInTTT = textLetters "TCAGACGCATAGGAGAATCGTTGAGTTT"
+
+abbrev pub endsInATT : List ℕ
+endsInATT = textLetters "AAGCAACACGTATTAACGCGGTGACATT"
+
+abbrev pub startsWithCCC : List ℕ
+startsWithCCC = textLetters "CCCGGTCGTTGTTCCTATTGCTAAGAAG"
+
+abbrev pub startsWithGCC : List ℕ
+startsWithGCC = textLetters "GCCGGAACTTCAGGACATATGCCTTGCG"
+
+abbrev pub runsOfTwo : List ℕ
+runsOfTwo = textLetters "ATCTCCATTAGCGTTCTTGGTAAGAGGA"
+
+abbrev pub noRuns : List ℕ
+noRuns = textLetters "GACAGTATCTCGCATGCTCTGCTATGCA"
+
 abbrev pub rows : List Row
 rows =
     cards bytesP (cardP 15 214) (weights 2 1)
@@ -117,10 +138,19 @@ rows =
     ∷ answers (weights 2 0) 4
     ∷ restores (letters2 ∷ letters1 ∷ letters3 ∷ [])
     (restoreEnd (restored 3 3 0) (record { file = 0x00 ∷ 0x27 ∷ 0x4E ∷ 0xE4 ∷ []; marks = 0 ∷ 1 ∷ 1 ∷ 1 ∷ [] }))
+    ∷ reads 3 214 endsInTTT (refused 13)
+    ∷ reads 4 214 endsInTTT (droplet 0xD2193288 (0x36 ∷ []))
+    ∷ reads 2 214 endsInATT (refused 13)
+    ∷ reads 3 214 endsInATT (droplet 0x09046CF0 (0x66 ∷ []))
+    ∷ reads 3 214 startsWithCCC (refused 13)
+    ∷ reads 4 214 startsWithCCC (droplet 0x56B6FBD7 (0x3E ∷ []))
+    ∷ reads 3 214 startsWithGCC (droplet 0x9681F4A1 (0x33 ∷ []))
+    ∷ reads 2 214 runsOfTwo (droplet 0x3753C9BD (0xFA ∷ []))
+    ∷ reads 1 214 noRuns (droplet 0x84B3764E (0x77 ∷ []))
     ∷ []
 
 pub examples : All Holds rows
-unfolding cardReading cardReadingRefusal wellFormed cardNumbers seedAfter seedWord segmentsOf degreeOf degree degreeFrom pickFrom member ofSeed afterDraw numberDrawn xorshift segment payload padded strandWord toBigEndian fromBigEndian parity remainderAfter xorLists multiple byRoot timesPower double shiftUp horner syndromes cardRefusal sizesRight limitsRight weightsRight segmentCount strandBytes firstWeights weightAt numberAt letterOf letterBits allLetters byteBases wordBases byteLetters wordLetters lettersByte lettersWord longestFrom longestRun gcCount withinLimits screenPasses sumsZero wordReading lettersReading readCheck recordBytes recordText recordPayload recordFrom records sameBytes findSeed appended compared storeReading storeRead droplets marked missing known filled filledBy step pass present peel cleared peelAll contradicts contradictions hasSeed roomRefusal laterRefusal restoreRefusal restore
+unfolding cardReading cardReadingRefusal wellFormed cardNumbers seedAfter seedWord segmentsOf degreeOf degree degreeFrom pickFrom member ofSeed afterDraw numberDrawn xorshift segment payload padded strandWord toBigEndian fromBigEndian parity remainderAfter xorLists multiple byRoot timesPower double shiftUp horner syndromes cardRefusal sizesRight limitsRight weightsRight segmentCount strandBytes firstWeights weightAt numberAt letterOf letterBits allLetters byteBases wordBases byteLetters wordLetters lettersByte lettersWord textLetters lettersBases siteBefore siteAfter orderOf withBase longestOf longestRun gcCount withinLimits screenPasses sumsZero wordReading lettersReading readCheck recordBytes recordText recordPayload recordFrom records sameBytes findSeed appended compared storeReading storeRead droplets marked missing known filled filledBy step pass present peel cleared peelAll contradicts contradictions hasSeed roomRefusal laterRefusal restoreRefusal restore
 examples = (
   (refl, refl),
   (
@@ -137,7 +167,7 @@ examples = (
               refl,
               (
                 (refl, refl, refl, refl),
-                (refl, (refl, (refl, (refl, (refl, (refl, (refl, (refl, (refl, (refl, tt)))))))))),
+                (refl, (refl, (refl, (refl, (refl, (refl, (refl, (refl, (refl, (refl, (refl, (refl, (refl, (refl, (refl, (refl, (refl, (refl, (refl, tt))))))))))))))))))),
               ),
             ),
           ),

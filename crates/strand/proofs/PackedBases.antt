@@ -7,7 +7,7 @@ use Prim.Native.Nat.{ℕ, zero, suc, _+_, _*_, _/_, _%_, _^_, _<_, _≤_, zero-l
 use native.Mathlib.Nat.{zero-add, add-suc, add-assoc, mul-assoc, pow-suc}
 use native.Mathlib.Numerals.{add-one}
 use native.Mathlib.Omega.{arith}
-use lib.Bits.{bitAnd, bitOr, bitXor, and-zero-r, and-block, xor-block, xor-shr, xor-mod, or-shr, or-mod, and-lt}
+use lib.Bits.{bitAnd, bitOr, bitXor, and-zero-r, and-block, xor-block, xor-shr, xor-mod, xor-lt, or-shr, or-mod, and-lt}
 use lib.Count.{ones, onesIn, ones-cat}
 use lib.Dec.{eqb, eqb→eq, T, lit<}
 use lib.ListN.{length, getD, drop}
@@ -15,7 +15,7 @@ use lib.Seq.{drop-cons}
 use Rattle.field.proofs.Tests.{below, at}
 use Rattle.strand.specs.Letters.{byteBases, wordBases}
 use Rattle.strand.specs.Screen.{gcCount, byteGc}
-use Rattle.strand.specs.Loops.{numberAfter, lowBits, gcIn, zeroPairs}
+use Rattle.strand.specs.Loops.{numberAfter, lowBits, gcIn, zeroPairs, matches}
 use Rattle.strand.proofs.Screening.{gc-most, gc-cons}
 
 -- ---- the formulas, a base at a time
@@ -96,7 +96,7 @@ gc-more k (suc j) c x h =
     rw (add-suc k j, fewer j c x, last j c x, gc-more k j c (x / 4) (less j x h)) (add-assoc (gcIn k c) (gcIn j (x / 4)) _)
 
 -- the flags of both
-pub pairs-more : (k j c x : ℕ) → x < 4 ^ j → zeroPairs (k + j) (c * 4 ^ j + x) ≡ zeroPairs k c * 4 ^ j + zeroPairs j x
+pairs-more : (k j c x : ℕ) → x < 4 ^ j → zeroPairs (k + j) (c * 4 ^ j + x) ≡ zeroPairs k c * 4 ^ j + zeroPairs j x
 unfolding zeroPairs
 pairs-more k zero c x h =
     let e : k + 0 ≡ k = omega arith in
@@ -105,12 +105,23 @@ pairs-more k zero c x h =
 pairs-more k (suc j) c x h =
     rw (add-suc k j, fewer j c x, last j c x, pairs-more k j c (x / 4) (less j x h)) (omega (arith, place j (zeroPairs k c)))
 
--- a number with 32 bases more, against itself moved on by one base
-pub moved-on : (n x : ℕ) → x < 2 ^ 64
-    → bitXor (n * 2 ^ 64 + x) ((n * 2 ^ 64 + x) / 4) ≡ bitXor n (n / 4) * 2 ^ 64 + bitXor x (n % 4 * 2 ^ 62 + x / 4)
-moved-on n x h =
-    let e : (n * 2 ^ 64 + x) / 4 ≡ n / 4 * 2 ^ 64 + (n % 4 * 2 ^ 62 + x / 4) = omega arith in
-    rw e (xor-block 64 n (n / 4) x (n % 4 * 2 ^ 62 + x / 4) h (omega arith))
+-- a number with 32 bases more and one behind them, against itself moved on by one base
+followed-on : (n x t : ℕ) → x < 2 ^ 64 → t < 4
+    → (let m = (n * 2 ^ 64 + x) * 4 + t in let f = n * 4 + x / 2 ^ 62 in
+    bitXor m (m / 4) ≡ bitXor f (f / 4) * 2 ^ 64 + bitXor (x % 2 ^ 62 * 4 + t) x)
+followed-on n x t h l =
+    let f = n * 4 + x / 2 ^ 62 in
+    let whole : (n * 2 ^ 64 + x) * 4 + t ≡ f * 2 ^ 64 + (x % 2 ^ 62 * 4 + t) = omega arith in
+    let up : (f * 2 ^ 64 + (x % 2 ^ 62 * 4 + t)) / 4 ≡ n * 2 ^ 64 + x = omega arith in
+    let front : f / 4 ≡ n = omega arith in
+    rw (whole, up, front) (xor-block 64 f n (x % 2 ^ 62 * 4 + t) x (omega arith) h)
+
+-- so that the matches before the last of the 32 hang on the first of them alone
+pub matches-more : (k n x t : ℕ) → x < 2 ^ 64 → t < 4
+    → matches (k + 32) ((n * 2 ^ 64 + x) * 4 + t) ≡ matches k (n * 4 + x / 2 ^ 62) * 2 ^ 64 + zeroPairs 32 (bitXor (x % 2 ^ 62 * 4 + t) x)
+matches-more k n x t h l =
+    let f = n * 4 + x / 2 ^ 62 in
+    rw (followed-on n x t h l) (pairs-more k 32 (bitXor f (f / 4)) (bitXor (x % 2 ^ 62 * 4 + t) x) (xor-lt 64 (x % 2 ^ 62 * 4 + t) x (omega arith) h))
 
 -- C and G are no more than the bases
 pub gc-few : (k n : ℕ) → gcIn k n ≤ k

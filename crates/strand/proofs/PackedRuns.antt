@@ -2,19 +2,22 @@
 -- it. Assumes nothing.
 use mathlib.Core.Path.{_≡_, refl, _∙_}
 use mathlib.Core.Bool.{Bool, true, false, cond}
-use mathlib.Core.List.{List, [], _∷_}
+use mathlib.Core.Logic.{inl, inr}
+use mathlib.Core.List.{List, [], _∷_, map, foldl}
 use Prim.Native.Nat.{ℕ, suc, max, _+_, _*_, _/_, _%_, _<_}
 use native.Mathlib.Omega.{arith}
-use borrow.Author.Tests.{ne-eqb}
+use borrow.Author.Tests.{eqb-true}
 use lib.Bits.{bitXor, xor-shr, xor-mod}
-use lib.Dec.{eqb}
+use lib.Dec.{eqb, lit<}
 use lib.ListN.{length, getD}
 use Rattle.field.specs.Bytes.{All}
+use Rattle.field.proofs.Tests.{either}
 use Rattle.strand.specs.Letters.{byteBases, wordBases}
-use Rattle.strand.specs.Screen.{longestFrom, longestRun}
+use Rattle.strand.specs.Screen.{OrderBase, ofStrand, ofSite, baseOf, isStrands, BaseRun, baseRun, withBase, longestOf, longestRun}
 use Rattle.strand.specs.Loops.{numberAfter, zeroPairs, matches, endRow, longestRow}
 use Rattle.strand.proofs.Spelling.{bases-length}
 use Rattle.strand.proofs.PackedBases.{agree}
+use Rattle.strand.proofs.OrderRuns.{one-more, earlierRuns, none-counts, order-run}
 
 -- a number with bases behind it
 basesAfter : ℕ → List ℕ → ℕ
@@ -71,47 +74,85 @@ unfolding longestRow
 longest-after k m true = let up : (m * 4 + 1) / 4 ≡ m = omega arith in rw up
 longest-after k m false = let up : (m * 4 + 0) / 4 ≡ m = omega arith in rw up
 
--- a run is one base longer than its row of matches
-run-after : (p : Bool) (r : ℕ) → cond p (suc (suc r)) 1 ≡ suc (cond p (suc r) 0)
-run-after true r = refl
-run-after false r = refl
+-- the runs behind bases of which the last k are the strand's, with the one before them: the last run is one longer than the row of
+-- matches at the end, and the longest that counts one longer than the longest row
+record Behind (k n : ℕ) (runs : List BaseRun) : Type 0 where
+  earlier : List BaseRun
+  last : runs ≡ baseRun (n % 4) (suc (endRow k (matches k n))) true ∷ earlier
+  longest : longestOf runs ≡ suc (longestRow k (matches k n))
 
--- bases behind n, whose last k are counted
-rows-from : (bases : List ℕ) → All (λ b. b < 4) bases → (k n : ℕ)
-    → longestFrom (n % 4) (suc (endRow k (matches k n))) (suc (longestRow k (matches k n))) bases
-    ≡ suc (longestRow (k + length bases) (matches (k + length bases) (basesAfter n bases)))
-unfolding longestFrom basesAfter
-rows-from [] t k n = let e : k + 0 ≡ k = omega arith in rw e
-rows-from (b ∷ bs) (h, t) k n =
+-- one base more, the strand's or a site's
+longest-more : (k n : ℕ) (runs : List BaseRun) → Behind k n runs → (x : OrderBase) → baseOf x < 4
+    → longestOf (withBase runs x) ≡ suc (longestRow (suc k) (matches (suc k) (n * 4 + baseOf x)))
+unfolding withBase
+longest-more k n runs now x h =
+    let p = eqb (baseOf x) (n % 4) in
     let m = matches k n in
+    rw (now .last, match-last k n (baseOf x) h, longest-after k m p, row-after k m p)
+    (one-more p (isStrands x) (baseOf x) (n % 4) (endRow k m) (longestRow k m) (now .earlier) (rw (now .last) at (now .longest)))
+
+-- a base of the strand keeps all of it
+base-more : (k n : ℕ) (runs : List BaseRun) → Behind k n runs → (b : ℕ) → b < 4 → Behind (suc k) (n * 4 + b) (withBase runs (ofStrand b))
+unfolding withBase
+base-more k n runs now b h =
     let p = eqb b (n % 4) in
-    let row = cond p (suc (endRow k m)) 0 in
+    let m = matches k n in
     let base : (n * 4 + b) % 4 ≡ b = omega arith in
-    let more : suc k + length bs ≡ k + suc (length bs) = omega arith in
-    let longer : suc (max (longestRow k m) row) ≡ max (suc (longestRow k m)) (suc row) = omega arith in
-    rw (run-after p (endRow k m))
-    (rw (base, match-last k n b h, longest-after k m p, row-after k m p, more, longer) at (rows-from bs t (suc k) (n * 4 + b)))
+    let longest = longest-more k n runs now (ofStrand b) h in
+    elim (either p) [
+      | inl e ↦ record {
+        earlier = now .earlier;
+        last = rw (now .last, base, match-last k n b h, row-after k m p, e) (rw (eqb-true b (n % 4) e));
+        longest = longest;
+      }
+      | inr e ↦ record {
+        earlier = runs;
+        last = rw (base, match-last k n b h, row-after k m p, e, now .last, e);
+        longest = longest;
+      }
+    ]
 
--- nothing stands before the strand, which is as if another base than its first did
-first-run : (before b : ℕ) (bs : List ℕ) → All (λ x. x < 4) (b ∷ bs) → before < 4 → (b ≡ before → ⊥)
-    → longestRun (b ∷ bs) ≡ suc (longestRow (suc (length bs)) (matches (suc (length bs)) (basesAfter (before * 4 + b) bs)))
-unfolding longestRun longestFrom zeroPairs endRow longestRow
-first-run before b bs (l, t) h d =
-    let n = before * 4 + b in
-    let whole : before % 4 ≡ before = omega arith in
-    let none : matches 1 n ≡ 0 = match-last 0 before b l ∙ rw (whole, ne-eqb b before d) in
-    let base : n % 4 ≡ b = omega arith in
-    let four : b ≡ 4 → ⊥ = λ e. omega arith in
+-- more bases of the strand
+bases-more : (bases : List ℕ) → All (λ b. b < 4) bases → (k n : ℕ) (runs : List BaseRun) → Behind k n runs
+    → Behind (k + length bases) (basesAfter n bases) (foldl withBase runs (map ofStrand bases))
+unfolding basesAfter
+bases-more [] t k n runs now = let e : k + 0 ≡ k = omega arith in rw e now
+bases-more (b ∷ bs) (h, t) k n runs now =
+    let e : suc k + length bs ≡ k + suc (length bs) = omega arith in
+    rw e at (bases-more bs t (suc k) (n * 4 + b) _ (base-more k n runs now b h))
+
+-- the first of them, behind the first site
+first-base : (b : ℕ) → b < 4 → Behind 1 (1 * 4 + b) (withBase (baseRun 1 1 false ∷ earlierRuns) (ofStrand b))
+unfolding withBase longestOf zeroPairs endRow longestRow
+first-base b h =
+    let base : (1 * 4 + b) % 4 ≡ b = omega arith in
+    elim (either (eqb b 1)) [
+      | inl e ↦ record {
+        earlier = earlierRuns;
+        last = rw (base, match-last 0 1 b h, e) (rw (eqb-true b 1 e));
+        longest = rw (match-last 0 1 b h, e, none-counts);
+      }
+      | inr e ↦ record {
+        earlier = baseRun 1 1 false ∷ earlierRuns;
+        last = rw (base, match-last 0 1 b h, e);
+        longest = rw (match-last 0 1 b h, e, none-counts);
+      }
+    ]
+
+-- the longest run of the order, for a strand that is not empty
+strand-run : (b : ℕ) (bs : List ℕ) → All (λ x. x < 4) (b ∷ bs)
+    → longestRun (b ∷ bs) ≡ suc (longestRow (suc (suc (length bs))) (matches (suc (suc (length bs))) (basesAfter 1 (b ∷ bs) * 4 + 3)))
+unfolding basesAfter
+strand-run b bs (h, t) =
     let count : 1 + length bs ≡ suc (length bs) = omega arith in
-    rw (ne-eqb b 4 four) (rw (base, none, count) at (rows-from bs t 1 n))
+    order-run (b ∷ bs)
+    ∙ rw count at (longest-more _ _ _ (bases-more bs t 1 (1 * 4 + b) _ (first-base b h)) (ofSite 3) (lit< tt))
 
--- a word's bytes behind such a base
-pub word-run : (before : ℕ) (word : List ℕ) → ((i : ℕ) → getD word i 0 < 256) → 0 < length word → before < 4
-    → (getD word 0 0 / 64 ≡ before → ⊥)
-    → longestRun (wordBases word) ≡ suc (longestRow (4 * length word) (matches (4 * length word) (numberAfter before word)))
-unfolding wordBases byteBases basesAfter
-word-run before [] l some h d = absurd (let z : ⊥ = omega arith in z)
-word-run before (b ∷ bs) l some h d =
-    let count : 4 * suc (length bs) ≡ suc (suc (suc (suc (length (wordBases bs))))) = omega (arith, bases-length bs) in
-    rw (count, word-bases before (b ∷ bs) l)
-    (first-run before (b / 64 % 4) _ (are-bases (b ∷ bs)) h (λ e. d (omega (arith, l 0))))
+-- and for a word's bytes
+pub word-run : (word : List ℕ) → ((i : ℕ) → getD word i 0 < 256) → 0 < length word
+    → longestRun (wordBases word) ≡ suc (longestRow (4 * length word + 1) (matches (4 * length word + 1) (numberAfter 1 word * 4 + 3)))
+unfolding wordBases byteBases
+word-run [] l some = absurd (let z : ⊥ = omega arith in z)
+word-run (b ∷ bs) l some =
+    let count : 4 * suc (length bs) + 1 ≡ suc (suc (suc (suc (suc (length (wordBases bs)))))) = omega (arith, bases-length bs) in
+    rw (count, word-bases 1 (b ∷ bs) l) (strand-run (b / 64 % 4) _ (are-bases (b ∷ bs)))

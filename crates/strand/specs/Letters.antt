@@ -1,7 +1,9 @@
 -- Document 01, "Check bytes, letters, screen": letters. A base is a number of two bits. Assumes nothing.
 use mathlib.Core.Bool.{Bool, true, false, cond, _&&_}
-use mathlib.Core.List.{List, [], _∷_, _++_}
+use mathlib.Core.List.{List, [], _∷_, _++_, map}
 use Prim.Native.Nat.{ℕ, _+_, _*_, _/_, _%_}
+use Prim.Native.Char.{code}
+use Prim.Native.String.{String, [] as []ᵗ, _∷_ as _∷ᵗ_}
 use lib.Dec.{eqb}
 
 -- "00 is A, 01 C, 10 G, 11 T": the letter of a base
@@ -24,6 +26,14 @@ isBits Other = false
 abbrev pub bitsOr0 : Letter → ℕ
 bitsOr0 (Bits b) = b
 bitsOr0 Other = 0
+
+-- the letters of a quoted text, and the bases of letters
+unfoldable pub textLetters : String → List ℕ
+textLetters []ᵗ = []
+textLetters (c ∷ᵗ text) = code c ∷ textLetters text
+
+unfoldable pub lettersBases : List ℕ → List ℕ
+lettersBases = map (λ x. bitsOr0 (letterBits x))
 
 -- all of A, C, G, T
 unfoldable pub allLetters : List ℕ → Bool

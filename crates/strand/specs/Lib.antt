@@ -1,5 +1,7 @@
 pub mod Letters
+pub mod Sites
 pub mod Screen
+pub mod LongestRun
 pub mod ReadCheck
 pub mod LegalStrand
 pub mod CForm

@@ -80,9 +80,9 @@ longestRow (suc k) n = max (longestRow k (n / 4)) (endRow (suc k) n)
 unfoldable pub thinned : ℕ → ℕ
 thinned n = bitAnd n (n / 4)
 
--- a word's matches behind a base, as numbers of 64 bits, and how many of its bases are C or G
-pub record MatchesOf (before : ℕ) (word : List ℕ) (gc : ℕ) (chunks : List ℕ) : Type 0 where
-  pub flags : chunksNumber chunks ≡ matches (4 * length word) (numberAfter before word)
+-- the matches of a word and the base after it, behind another base, as numbers of 64 bits; and how many of the word's are C or G
+pub record MatchesOf (before : ℕ) (word : List ℕ) (after gc : ℕ) (chunks : List ℕ) : Type 0 where
+  pub flags : chunksNumber chunks ≡ matches (4 * length word + 1) (numberAfter before word * 4 + after)
   pub counts : gc ≡ gcIn (4 * length word) (numberAfter before word)
 
 -- what the functions that check a read need of a card that was not refused

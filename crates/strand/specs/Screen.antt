@@ -1,21 +1,48 @@
--- Document 01, "Check bytes, letters, screen": the screen. Assumes nothing.
-use mathlib.Core.Bool.{Bool, cond, _&&_}
-use mathlib.Core.List.{List, [], _∷_}
+-- Document 01, "Check bytes, letters, screen": the screen, its runs as document 02, Item 1, has them. Assumes nothing.
+use mathlib.Core.Bool.{Bool, true, false, cond, _&&_, _||_}
+use mathlib.Core.List.{List, [], _∷_, _++_, map, foldl}
 use Prim.Native.Nat.{ℕ, suc, _+_, _*_, max}
 use lib.Dec.{eqb, leb}
 use lib.ListN.{length}
 use Rattle.droplet.specs.declared.card.Card.{Card}
-use Rattle.strand.specs.Letters.{byteBases, wordBases}
+use Rattle.strand.specs.Letters.{byteBases, wordBases, lettersBases}
+use Rattle.strand.specs.Sites.{siteBefore, siteAfter}
 
--- the longest run, where `run` bases equal to `last` went before, and `longest` is the longest so far
-unfoldable pub longestFrom : ℕ → ℕ → ℕ → List ℕ → ℕ
-longestFrom last run longest [] = longest
-longestFrom last run longest (b ∷ bs) =
-    let now = cond (eqb b last) (suc run) 1 in longestFrom b now (max longest now) bs
+-- a base of the order that goes to synthesis, the strand's or a site's
+pub data OrderBase : Type 0 where
+  ofStrand : ℕ → OrderBase
+  ofSite : ℕ → OrderBase
 
--- "A run is counted inside the strand alone": 4 is no base, so nothing stands before it
+abbrev pub baseOf : OrderBase → ℕ
+baseOf (ofStrand b) = b
+baseOf (ofSite b) = b
+
+abbrev pub isStrands : OrderBase → Bool
+isStrands (ofStrand b) = true
+isStrands (ofSite b) = false
+
+-- the order for a strand's bases: "annealing sites .. before the strand and .. after it"
+unfoldable pub orderOf : List ℕ → List OrderBase
+orderOf bases = map ofSite (lettersBases siteBefore) ++ (map ofStrand bases ++ map ofSite (lettersBases siteAfter))
+
+-- a maximal run of the order: its base, its length, and whether "at least one of its bases belongs to the strand"
+pub data BaseRun : Type 0 where
+  baseRun : ℕ → ℕ → Bool → BaseRun
+
+-- the runs with one base more, the last run first: a base goes on with that run if it is equal, and otherwise begins another
+unfoldable pub withBase : List BaseRun → OrderBase → List BaseRun
+withBase [] x = baseRun (baseOf x) 1 (isStrands x) ∷ []
+withBase (baseRun b n own ∷ runs) x =
+    cond (eqb (baseOf x) b) (baseRun b (suc n) (own || isStrands x) ∷ runs) (baseRun (baseOf x) 1 (isStrands x) ∷ (baseRun b n own ∷ runs))
+
+-- the longest of the runs that count
+unfoldable pub longestOf : List BaseRun → ℕ
+longestOf [] = 0
+longestOf (baseRun b n own ∷ runs) = max (cond own n 0) (longestOf runs)
+
+-- "a run counts if at least one of its bases belongs to the strand, and it is counted through the sites" (document 02, Item 1)
 unfoldable pub longestRun : List ℕ → ℕ
-longestRun bases = longestFrom 4 0 0 bases
+longestRun bases = longestOf (foldl withBase [] (orderOf bases))
 
 -- how many bases of a list are C or G
 unfoldable pub gcCount : List ℕ → ℕ

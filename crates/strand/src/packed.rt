@@ -36,10 +36,18 @@ pub fn moved(before: u64, bases: u64) -> u64
     (before << 62) | (bases >> 2)
 }
 
-// The front of a word, fewer than eight bytes.
+// 32 bases moved back by one: behind them comes the first one of the next.
+pub fn followed(bases: u64, next: u64) -> u64
+    ensures { λ r. ⌜ r ≡ bases % 2 ^ 62 * 4 + next / 2 ^ 62 ⌝ }
+{
+    (bases << 2) | (next >> 62)
+}
+
+// The front of a word, fewer than eight bytes. Number and mask have room for another base.
 pub fn front_of(word: &[u8], before: u64) -> Front
     requires { ⌜ (length (now word) < 8) × (before < 4) ⌝ }
     ensures { λ r. ⌜ (r .number ≡ numberAfter before (now (word .entry))) × (r .mask ≡ lowBits (4 * length (now (word .entry)))) ⌝ }
+    ensures { λ r. ⌜ (r .number < 2 ^ 62) × (r .mask < 2 ^ 62) ⌝ }
 {
     let mut number = before;
     let mut mask = 0;

@@ -10,42 +10,49 @@ use droplet::card::Bases;
 use droplet::card::Bytes;
 use droplet::card::Card;
 
-// What the screen measures of a strand: its longest run of one base, and how many of its bases are C or G.
+// What the screen measures of a strand: its longest run of one base, counted through the sites of the order, and how many of its own
+// bases are C or G.
 pub struct Measure {
     pub longest: usize,
     pub gc: usize,
 }
 
-// Puts the matches of a word's bases into `matches`, the first ones and then 32 to a number, and answers how many bases are C or G.
-// `before` is the base before the word.
-fn put_matches(matches: &mut [u64], word: &[u8], before: u64) -> usize
-    requires { ⌜ (length (now word) ≤ 72) × (length (now matches) ≡ length (now word) / 8 + 1) × (before < 4) ⌝ }
-    ensures { λ gc. ⌜ MatchesOf before (now (word .entry)) gc (now (matches .exit)) ⌝ }
+// The bases of the order beside the strand: the first site ends in C, the second starts with T.
+const BEFORE: u64 = 1;
+
+const AFTER: u64 = 3;
+
+// Puts a flag for each base of `before`, a word and `after` but the first, set where it matches the one before it, into `matches`: the
+// first ones and then 32 to a number. Answers how many of the word's bases are C or G.
+fn put_matches(matches: &mut [u64], word: &[u8], before: u64, after: u64) -> usize
+    requires { ⌜ (length (now word) ≤ 72) × (length (now matches) ≡ length (now word) / 8 + 1) × (before < 4) × (after < 4) ⌝ }
+    ensures { λ gc. ⌜ MatchesOf before (now (word .entry)) after gc (now (matches .exit)) ⌝ }
 {
     let rest = word.len() % 8;
     let front = packed::front_of(&word[..rest], before);
-    matches[0] = packed::matches_of(front.number ^ (front.number >> 2), front.mask);
     let mut gc = packed::gc_of(front.number, front.mask) as usize;
     let mut last = front.number;
+    let mut mask = front.mask * 4 + 1;
     let mut k = 0;
     while k < word.len() / 8 {
         let bases = packed::eight_at(word, rest + k * 8);
-        k += 1;
-        matches[k] = packed::matches_of(bases ^ packed::moved(last, bases), packed::LOW_BITS);
+        matches[k] = packed::matches_of(packed::followed(last, bases) ^ last, mask);
         gc += packed::gc_of(bases, packed::LOW_BITS) as usize;
         last = bases;
+        mask = packed::LOW_BITS;
+        k += 1;
     }
+    matches[k] = packed::matches_of(packed::followed(last, after << 62) ^ last, mask);
     gc
 }
 
-// The measure of a word that is not empty, with room for its matches. Nothing stands before the strand: what is put there is the
-// complement of its first base, which never matches it.
+// The measure of a word that is not empty, with room for its matches. Of the sites only the bases at the joints are looked at: both
+// differ from their neighbours, so that no run comes through from further off.
 fn measure_in(matches: &mut [u64], word: &[u8]) -> Measure
     requires { ⌜ (0 < length (now word)) × (length (now word) ≤ 72) × (length (now matches) ≡ length (now word) / 8 + 1) ⌝ }
     ensures { λ r. ⌜ (r .longest ≡ longestRun (wordBases (now (word .entry)))) × (r .gc ≡ gcCount (wordBases (now (word .entry)))) ⌝ }
 {
-    let before = 3 - word[0] / 64;
-    let gc = put_matches(&mut *matches, word, before as u64);
+    let gc = put_matches(&mut *matches, word, BEFORE, AFTER);
     let longest = packed::longest_run(&mut *matches);
     Measure { longest, gc }
 }

@@ -1,6 +1,7 @@
 //! Reads: legal ones, damaged ones, and a screen that a read just passes or just misses.
 
 use super::cards::Numbers;
+use super::joints::{self, longest_inside, longest_run, through_first, through_second};
 use super::random::Random;
 use super::run::Regions;
 use second::check_bytes_letters_screen::{
@@ -50,22 +51,16 @@ pub fn read_of(numbers: &Numbers, seed: u32, payload: &[u8]) -> Vec<u8> {
     letters_of_bytes(&strand_bytes(seed, payload, numbers.r))
 }
 
-fn longest_run(read: &[u8]) -> usize {
-    let mut longest = 0;
-    let mut start = 0;
-    for i in 0..read.len() {
-        if read[i] != read[start] {
-            start = i;
-        }
-        longest = longest.max(i + 1 - start);
-    }
-    longest
-}
-
 fn gc(read: &[u8]) -> usize {
     read.iter()
         .filter(|&&letter| letter == b'C' || letter == b'G')
         .count()
+}
+
+/// Whether C and G of the read lie within lo and hi.
+pub fn gc_fits(numbers: &Numbers, read: &[u8]) -> bool {
+    let (n, g) = (read.len(), 1000 * gc(read));
+    (usize::from(numbers.lo) * n..=usize::from(numbers.hi) * n).contains(&g)
 }
 
 /// Sets m, lo and hi so that the read passes the screen, at an edge of it or far from all, unless a run is over 20.
@@ -117,6 +112,7 @@ pub fn any_read(random: &mut Random, numbers: &mut Numbers) -> Vec<u8> {
         0 => (0, vec![0; l]),
         1 => (0, any_payload(random, l)),
         2 => of_one_kind(random, l),
+        3..=5 => joints::any_droplet(random, l, numbers.r),
         _ => (any_seed(random), any_payload(random, l)),
     };
     let mut read = read_of(numbers, seed, &payload);
@@ -196,10 +192,16 @@ fn swap_letters(random: &mut Random, read: &mut [u8]) {
     read.swap(a, b);
 }
 
+/// The polynomial of least degree that is 0 at the first roots, a^0 and so on, as many as are asked for.
+pub fn zero_at_roots(count: usize) -> Vec<u8> {
+    let mut polynomial = vec![1];
+    polynomial.extend(check_bytes(&[1], count));
+    polynomial
+}
+
 /// Adds a polynomial that is 0 at a^0 .. a^(R-2) and not at a^(R-1): of the R check sums only the last tells of it.
 fn only_last_check_sum(random: &mut Random, numbers: &Numbers, read: &mut [u8]) {
-    let mut factor = vec![1];
-    factor.extend(check_bytes(&[1], usize::from(numbers.r) - 1));
+    let factor = zero_at_roots(usize::from(numbers.r) - 1);
     let times = random.between(1, 255) as u8;
     let bytes: Vec<u8> = read.chunks(4).map(byte_of).collect();
     let place = random.below(bytes.len() - factor.len() + 1);
@@ -210,7 +212,7 @@ fn only_last_check_sum(random: &mut Random, numbers: &Numbers, read: &mut [u8]) 
     read.copy_from_slice(&letters_of_bytes(&changed));
 }
 
-fn byte_of(letters: &[u8]) -> u8 {
+pub fn byte_of(letters: &[u8]) -> u8 {
     letters.iter().fold(0, |byte, letter| {
         byte << 2 | b"ACGT".iter().position(|base| base == letter).unwrap_or(0) as u8
     })
@@ -261,17 +263,19 @@ pub fn note(regions: &mut Regions, numbers: &Numbers, read: &[u8], answer: u32) 
     }
 }
 
-/// The longest run if it were cut after each eight bytes, counted from the end of the strand.
+/// The longest run inside the strand if it were cut after each eight bytes, counted from the end of the strand.
 fn longest_inside_eights(read: &[u8]) -> usize {
     let (front, eights) = read.split_at(read.len() % 32);
     eights
         .chunks(32)
-        .map(longest_run)
-        .fold(longest_run(front), usize::max)
+        .map(longest_inside)
+        .fold(longest_inside(front), usize::max)
 }
 
 fn note_screen(regions: &mut Regions, numbers: &Numbers, read: &[u8], passed: bool) {
+    joints::note(regions, numbers, read, passed);
     let (run, n, g) = (longest_run(read), read.len(), 1000 * gc(read));
+    let inside = longest_inside(read);
     let (m, lo, hi) = (
         usize::from(numbers.m),
         usize::from(numbers.lo),
@@ -280,20 +284,21 @@ fn note_screen(regions: &mut Regions, numbers: &Numbers, read: &[u8], passed: bo
     if passed {
         regions.note_if(read.starts_with(b"AAAAAAAAAAAAAAAC"), "seed 1");
         regions.note_if(run == m, "run = m");
-        regions.note_if(run >= 5, "run over a byte's end");
+        regions.note_if(inside >= 5, "run over a byte's end");
         regions.note_if(g < (lo + 1) * n, "lo just passed");
         regions.note_if(hi > 0 && (hi - 1) * n < g, "hi just passed");
         regions.note_if(g == 1000 * n, "all of C and G");
         regions.note_if(g == 0, "none of C and G");
         regions.note_if(lo == hi, "lo and hi both met");
     } else {
-        let gc_fine = lo * n <= g && g <= hi * n;
-        regions.note_if(run == m + 1 && gc_fine, "13: run = m + 1");
+        let off_the_joints = through_first(read).max(through_second(read)) <= m;
+        let by_one = inside == m + 1 && off_the_joints && gc_fits(numbers, read);
+        regions.note_if(by_one, "13: run = m + 1");
         regions.note_if(
-            run == m + 1 && gc_fine && longest_inside_eights(read) <= m,
+            by_one && longest_inside_eights(read) <= m,
             "13: run = m + 1 over the end of eight bytes",
         );
-        regions.note_if(run >= 64, "13: run of eight bytes and more");
+        regions.note_if(inside >= 64, "13: run of eight bytes and more");
         regions.note_if(
             run <= m && lo > 0 && g < lo * n && (lo - 1) * n <= g,
             "13: lo just missed",

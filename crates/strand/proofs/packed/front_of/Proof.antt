@@ -31,8 +31,8 @@ abbrev μ-loop : tie.MeasureT-loop
 wider : (e e′ n b : ℕ) → n < 2 ^ e → b < 256 → e′ ≡ e + 8 → n * 256 + b < 2 ^ e′
 wider e e′ n b h l f = rw (f, pow-add 2 e 8) (omega arith)
 
-narrow : (e n : ℕ) → n < 2 ^ e → e ≤ 55 → n < 2 ^ 55
-narrow e n h l = lt-of-lt-of-le h (pow-mono {j = 55} l)
+narrow : (most e n : ℕ) → n < 2 ^ e → e ≤ most → n < 2 ^ most
+narrow most e n h l = lt-of-lt-of-le h (pow-mono {j = most} l)
 
 four-more : (j : ℕ) → lowBits (4 * (j + 1)) ≡ lowBits (4 * j) * 256 + 85
 unfolding lowBits
@@ -56,12 +56,16 @@ module _ (word : List ℕ) (before number mask j : ℕ) (now : Stands word befor
       let e : j ≡ length word = omega (arith, now .at-most) in
       (rw (drop-of-length-le word h) at (now .leads), rw e at (now .masks))
 
+  roomy : length word < 8 → (number < 2 ^ 62) × (mask < 2 ^ 62)
+  roomy h =
+      (narrow 62 _ number (now .fits) (omega (arith, now .at-most)), narrow 62 _ mask (now .mask-fits) (omega (arith, now .at-most)))
+
 loop-holds : tie.Need-loop-holds Inv-loop μ-loop
 unfolding lowBits
 loop-holds c = record { at-most = zero-le; fits = omega (arith, c .pre .1); leads = refl; masks = refl; mask-fits = lit< tt }
 
 mul-number : tie.Need-mul-number Inv-loop μ-loop
-mul-number c = let l = c .before .loop in omega (arith, narrow _ (l .number) (l .inv .fits) (omega arith))
+mul-number c = let l = c .before .loop in omega (arith, narrow 55 _ (l .number) (l .inv .fits) (omega arith))
 
 cast-number : tie.Need-cast-number Inv-loop μ-loop
 cast-number c = omega (arith, c .shared-slice-known .given (c .before .before .loop .j))
@@ -69,13 +73,13 @@ cast-number c = omega (arith, c .shared-slice-known .given (c .before .before .l
 add-number : tie.Need-add-number Inv-loop μ-loop
 add-number c =
     let l = c .before .before .loop in
-    omega (arith, narrow _ (l .number) (l .inv .fits) (omega arith), c .shared-slice-known .given (l .j))
+    omega (arith, narrow 55 _ (l .number) (l .inv .fits) (omega arith), c .shared-slice-known .given (l .j))
 
 mul-mask : tie.Need-mul-mask Inv-loop μ-loop
-mul-mask c = let l = c .before .before .loop in omega (arith, narrow _ (l .mask) (l .inv .mask-fits) (omega arith))
+mul-mask c = let l = c .before .before .loop in omega (arith, narrow 55 _ (l .mask) (l .inv .mask-fits) (omega arith))
 
 add-mask : tie.Need-add-mask Inv-loop μ-loop
-add-mask c = let l = c .before .before .loop in omega (arith, narrow _ (l .mask) (l .inv .mask-fits) (omega arith))
+add-mask c = let l = c .before .before .loop in omega (arith, narrow 55 _ (l .mask) (l .inv .mask-fits) (omega arith))
 
 loop-again : tie.Need-loop-again Inv-loop μ-loop
 loop-again c =
@@ -83,7 +87,9 @@ loop-again c =
     turned _ _ (l .number) (l .mask) (l .j) (l .inv) (omega arith) (omega (arith, c .shared-slice-known .given (l .j)))
 
 returns : tie.Need-returns Inv-loop μ-loop
-returns c = let l = c .before .loop in finished _ _ (l .number) (l .mask) (l .j) (l .inv) (omega arith)
+returns c =
+    let l = c .before .loop in
+    (finished _ _ (l .number) (l .mask) (l .j) (l .inv) (omega arith), roomy _ _ (l .number) (l .mask) (l .j) (l .inv) (c .before .before .pre .0))
 
 pub front-of-spec : {M : Type 1} → statement M
 front-of-spec =

@@ -5,14 +5,15 @@ use Prim.Native.Nat.{ℕ}
 use native.Mathlib.Omega.{arith}
 use lib.ListN.{length}
 use lib.Seq.{length-take-le}
-use Rattle.strand.specs.Letters.{wordBases}
-use Rattle.strand.specs.Screen.{longestFrom, longestRun, gcCount}
+use Rattle.strand.specs.Letters.{letterBits, textLetters, lettersBases, wordBases}
+use Rattle.strand.specs.Sites.{siteBefore, siteAfter}
+use Rattle.strand.specs.Screen.{withBase, longestOf, orderOf, longestRun, gcCount}
 use borrow.Author.Needs.{needs}
 use Rattle.strand.proofs.screen.measure_of.Statement.{statement}
 use Rattle.strand.proofs.screen.measure_of.Tie as tie
 
 empty : (word : List ℕ) → length word ≡ 0 → (0 ≡ longestRun (wordBases word)) × (0 ≡ gcCount (wordBases word))
-unfolding wordBases longestRun longestFrom gcCount
+unfolding wordBases siteBefore siteAfter textLetters letterBits lettersBases withBase longestOf orderOf longestRun gcCount
 empty [] e = (refl, refl)
 empty (b ∷ bs) e = absurd (let z : ⊥ = omega arith in z)
 
