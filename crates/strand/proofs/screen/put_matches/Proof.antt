@@ -114,7 +114,7 @@ loop-holds c =
     let mask = rw rest at (front .ensures .0 .1) in (
       refl,
       started w (s .args .before) (s .args .matches .now) (front .result .number) (front .result .mask) (c .before .gc-of .result)
-          (s .pre .1) (front .ensures .0 .0) (front .ensures .1 .0) mask (c .before .gc-of .ensures _ mask),
+          (s .pre .1) (front .ensures .0 .0) (front .ensures .1 .0) mask (c .before .gc-of .ensures (4 * (length w % 8)) (omega (arith, mask))),
     )
 
 add-gc : tie.Need-add-gc Inv-loop μ-loop
