@@ -1,7 +1,8 @@
 /* Runs document 01's bench example through all five functions and compares every number and every byte with the values that
  * stand there or follow from its rules: reads card P, writes strands of file Q, checks and stores the reads of seeds 2, 1, 3,
- * and restores. On the way it has calls refused, and runs document 02's example of runs over the joints (Item 1). Each lent
- * buffer and answer ends in bytes that must survive, and all of them must survive a refusal. Returns 1 if anything differs.
+ * and restores. On the way it has calls refused, and runs document 02's example of runs over the joints (Item 1) and the
+ * header's example of dropped strands (Item 12). Each lent buffer and answer ends in bytes that must survive, and all of them
+ * must survive a refusal. Returns 1 if anything differs.
  *
  *   capi_bench bench.card */
 #include <stdio.h>
@@ -88,7 +89,7 @@ static void write_refused(const struct pool *p)
 {
     uint8_t out[3 * LINE + SPARE];
     uint32_t list[D + SPARE];
-    uint64_t a[5];
+    uint64_t a[7];
     struct pool sizes = *p, limits = *p, plan = *p;
     sizes.R = 3;
     limits.hi = 1001;
@@ -113,13 +114,13 @@ static void write_one(const struct pool *p, uint32_t seed, const char *strand)
 {
     uint8_t out[LINE + SPARE];
     uint32_t list[D + SPARE];
-    uint64_t a[5];
-    uint64_t wanted[4] = {0, 1, 1, (uint64_t)seed << 1};
+    uint64_t a[7];
+    uint64_t wanted[6] = {0, 1, 1, (uint64_t)seed << 1, 0, 0};
     lend(out, sizeof out);
     lend(list, sizeof list);
     lend(a, sizeof a);
     number("write", fountain_write(CARD(p), Q, 4, seed, 1, 5, out, sizeof out, list, D + SPARE, a), 0);
-    answers("the writer's answer", a, wanted, 4);
+    answers("the writer's answer", a, wanted, 6);
     bytes("the strand", out, strand, N);
     number("the newline byte", out[N], '\n');
     kept("the buffer past the strand", out + LINE, SPARE);
@@ -130,25 +131,25 @@ static void write_one(const struct pool *p, uint32_t seed, const char *strand)
  * (seed 1's has a run of 15), and nothing wanted. */
 static void write_ends(const struct pool *p)
 {
-    static const uint64_t spent[4] = {1, 2, 2, 4}, unmade[4] = {1, 0, 1, 2}, none[4] = {0, 0, 0, 7};
+    static const uint64_t spent[6] = {1, 2, 2, 4, 0, 0}, unmade[6] = {1, 0, 1, 2, 1, 0}, none[6] = {0, 0, 0, 7, 0, 0};
     struct pool run_14 = *p;
     uint8_t out[3 * LINE + SPARE];
     uint32_t list[D];
-    uint64_t a[5];
+    uint64_t a[7];
     run_14.m = 14;
     lend(out, sizeof out);
     lend(a, sizeof a);
     number("write: unmade", fountain_write(CARD(&run_14), Q, 4, 1, 3, 1, out, sizeof out, list, D, a), 0);
-    answers("the answer with nothing made", a, unmade, 4);
+    answers("the answer with nothing made", a, unmade, 6);
     kept("the buffer with nothing made", out, sizeof out);
     number("write: spent", fountain_write(CARD(p), Q, 4, 1, 3, 2, out, sizeof out, list, D, a), 0);
-    answers("the answer of a spent writer", a, spent, 4);
+    answers("the answer of a spent writer", a, spent, 6);
     bytes("the strand of seed 1", out, READS[1], N);
     bytes("the strand of seed 2", out + LINE, READS[0], N);
     kept("the buffer past two strands", out + 2 * LINE, LINE + SPARE);
     lend(a, sizeof a);
     number("write: none wanted", fountain_write(CARD(p), Q, 4, 7, 0, 0, NULL, 0, list, D, a), 0);
-    answers("the answer with none wanted", a, none, 4);
+    answers("the answer with none wanted", a, none, 6);
 }
 
 static void check_reads(const struct pool *p)
@@ -175,11 +176,11 @@ static void joints(const struct pool *p)
     static const char *const strands[3] = {
         "AGGTGCGTGTGATCACTGCAGAAGGTTT", "CCCTATCTCTACGGAGCATGACGATGCC", "GGTGCGTGTGATCACAAGCTGTTATTTA"};
     static const uint32_t start = 0x2B9BB8D1;
-    static const uint64_t at_4[4] = {0, 1, 1, 0x573771A2}, at_3[4] = {0, 1, 3, 0x5CDDC64D};
+    static const uint64_t at_4[6] = {0, 1, 1, 0x573771A2, 0, 0}, at_3[6] = {0, 1, 3, 0x5CDDC64D, 2, 0};
     struct pool run_3 = *p, run_4 = *p;
     uint8_t line[LINE + SPARE], out[RECORD + SPARE];
     uint32_t list[D];
-    uint64_t a[5];
+    uint64_t a[7];
     run_3.m = 3;
     run_4.m = 4;
     for (int i = 0; i < 3; i++) {
@@ -193,12 +194,43 @@ static void joints(const struct pool *p)
     lend(line, sizeof line);
     lend(a, sizeof a);
     number("write at m = 4", fountain_write(CARD(&run_4), Q, 4, start, 1, 3, line, sizeof line, list, D, a), 0);
-    answers("the answer at m = 4", a, at_4, 4);
+    answers("the answer at m = 4", a, at_4, 6);
     bytes("the strand that ends in TTT", line, strands[0], N);
     number("write at m = 3", fountain_write(CARD(&run_3), Q, 4, start, 1, 3, line, sizeof line, list, D, a), 0);
-    answers("the answer at m = 3", a, at_3, 4);
+    answers("the answer at m = 3", a, at_3, 6);
     bytes("the strand with no run of four", line, strands[2], N);
     kept("the buffer past the strand at m = 3", line + LINE, SPARE);
+}
+
+/* One job under the header's three limits, and one that is spent on a strand with both faults (document 02, Item 12). */
+static void drops(const struct pool *p)
+{
+    static const struct {
+        uint8_t m;
+        uint16_t lo, hi;
+        uint32_t budget;
+        uint64_t answer[6];
+    } jobs[4] = {
+        {3, 450, 550, 1000, {0, 10, 62, 0xD862C7F9, 23, 29}},
+        {4, 450, 550, 1000, {0, 10, 49, 0x506EC32B, 7, 32}},
+        {3, 400, 600, 1000, {0, 10, 13, 0x8ACEB9DE, 2, 1}},
+        {3, 450, 550, 20, {1, 2, 20, 0x675CDD91, 5, 13}},
+    };
+    for (int i = 0; i < 4; i++) {
+        struct pool tight = *p;
+        uint8_t out[10 * LINE + SPARE];
+        uint32_t list[D];
+        uint64_t a[7];
+        size_t made = (size_t)jobs[i].answer[1];
+        tight.m = jobs[i].m;
+        tight.lo = jobs[i].lo;
+        tight.hi = jobs[i].hi;
+        lend(out, sizeof out);
+        lend(a, sizeof a);
+        number("write: drops", fountain_write(CARD(&tight), Q, 4, 0x12345678, 10, jobs[i].budget, out, sizeof out, list, D, a), 0);
+        answers("the answer with drops", a, jobs[i].answer, 6);
+        kept("the buffer past the strands made", out + made * LINE, sizeof out - made * LINE);
+    }
 }
 
 /* Stores the reads of seeds 2, 1 and 3 in this order, each twice. The shelf has no space for a fourth record. */
@@ -301,6 +333,7 @@ int main(int argc, char **argv)
     write_ends(&p);
     check_reads(&p);
     joints(&p);
+    drops(&p);
     lend(store, sizeof store);
     store_reads(&p, store, sizeof store);
     store_other_payload(&p);

@@ -68,8 +68,17 @@ uint32_t fountain_read_card(const uint8_t *card, size_t card_len, uint64_t answe
  *   budget            how many seeds to try at most
  *   out, out_len      lent for the strands, at least wanted * (n + 1) bytes: n letters and a newline byte for each
  *   list, list_len    lent as scratch memory, at least D places
- *   answer            lent for four numbers: the stop (0 done: made is wanted; 1 spent: tried is budget), made, tried, and the
- *                     next seed, with which a later call goes on
+ *   answer            lent for six numbers: the stop (0 done: made is wanted; 1 spent: tried is budget), made, tried, the next
+ *                     seed, with which a later call goes on, and how many strands were dropped for a run and for GC alone
+ *
+ * A strand is dropped for a run if it has one longer than m, whatever its C and G are, and for GC alone if its runs are within m
+ * and C and G are outside lo and hi, so that tried is made plus both. For example, 10 strands of the file 1B 27 4E E4 from seed
+ * 0x12345678 on (F 4, L 1, R 2, two weights of 1, budget 1,000):
+ *
+ *      m   lo   hi    made  tried  dropped for a run  for GC alone
+ *      3  450  550      10     62                 23            29
+ *      4  450  550      10     49                  7            32
+ *      3  400  600      10     13                  2             1
  *
  * Returns 0 and fills answer. The first made * (n + 1) bytes of out then hold the strands, and its bytes past these are as they
  * were. The first D places of list hold anything, those past D are as they were. Otherwise:
@@ -85,7 +94,7 @@ uint32_t fountain_write(uint32_t F, uint8_t L, uint8_t R, uint8_t m, uint16_t lo
                         uint32_t start, uint32_t wanted, uint32_t budget,
                         uint8_t *out, size_t out_len,
                         uint32_t *list, size_t list_len,
-                        uint64_t answer[4]);
+                        uint64_t answer[6]);
 
 /* Checks one read under a pool card.
  *

@@ -105,7 +105,7 @@ pub fn write(
     budget: u32,
     out: &mut [u8],
     list: &mut [u32],
-    answer: &mut [u64; 4],
+    answer: &mut [u64; 6],
 ) -> u32 {
     let (w, wn) = (weights.as_ptr(), weights.len());
     let (f, fl) = (file.as_ptr(), file.len());

@@ -166,7 +166,7 @@ fn run(job: &Job) -> Vec<Line> {
         vec![b'?'; strands * line + 8],
     );
     let (mut list_a, mut list_b) = (vec![0u32; 1024], vec![0u32; 1024]);
-    let (mut a, mut b) = ([9; 4], [9; 4]);
+    let (mut a, mut b) = ([9; 6], [9; 6]);
     let (proved, rust) = race(
         job.rounds,
         || {

@@ -178,8 +178,15 @@ fn parity_four(message: &[u8]) -> u32 {
     rest
 }
 
+/// What the card's limits make of a strand.
+enum Verdict {
+    Passes,
+    LongRun,
+    GcAlone,
+}
+
 /// Of the sites only the bases beside the strand can join a run of it: a single C before it, a single T after it.
-fn screen(card: &Card, word: &[u8]) -> bool {
+fn screen(card: &Card, word: &[u8]) -> Verdict {
     let mut last = 1u8;
     let (mut run, mut longest, mut gc) = (1u32, 0u32, 0u32);
     for &b in word {
@@ -194,7 +201,13 @@ fn screen(card: &Card, word: &[u8]) -> bool {
         longest = longest.max(run + 1);
     }
     let n = 4 * word.len() as u32;
-    longest <= card.m as u32 && card.lo as u32 * n <= 1000 * gc && 1000 * gc <= card.hi as u32 * n
+    if longest > card.m as u32 {
+        Verdict::LongRun
+    } else if card.lo as u32 * n <= 1000 * gc && 1000 * gc <= card.hi as u32 * n {
+        Verdict::Passes
+    } else {
+        Verdict::GcAlone
+    }
 }
 
 /// Questions 9 to 13: the seed, with the word in the buffer.
@@ -221,7 +234,7 @@ fn check_letters(card: &Card, read: &[u8], word: &mut [u8; 72]) -> Result<u32, u
     if seed == 0 {
         return Err(12);
     }
-    if !screen(card, word) {
+    if !matches!(screen(card, word), Verdict::Passes) {
         return Err(13);
     }
     Ok(seed)
@@ -360,7 +373,7 @@ pub fn write(
     budget: u32,
     out: &mut [u8],
     list: &mut [u32],
-    answer: &mut [u64; 4],
+    answer: &mut [u64; 6],
 ) -> u32 {
     let plan = match plan_of(&card, weights) {
         Ok(plan) => plan,
@@ -381,6 +394,7 @@ pub fn write(
         return 8;
     }
     let (mut seed, mut made, mut tried, mut at) = (start, 0, 0, 0);
+    let (mut long_run, mut gc_alone) = (0, 0);
     let mut word = [0u8; 72];
     while made != wanted && tried != budget {
         let mut state = Draw { x: seed, w: 0 };
@@ -402,14 +416,18 @@ pub fn write(
             let rest = parity_four(&word[..4 + l]);
             word[4 + l..8 + l].copy_from_slice(&rest.to_be_bytes());
         }
-        if screen(&card, &word[..size]) {
-            let text = &mut out[at..at + line];
-            for (four, &b) in text.chunks_exact_mut(4).zip(&word[..size]) {
-                four.copy_from_slice(&WORDS[b as usize]);
+        match screen(&card, &word[..size]) {
+            Verdict::Passes => {
+                let text = &mut out[at..at + line];
+                for (four, &b) in text.chunks_exact_mut(4).zip(&word[..size]) {
+                    four.copy_from_slice(&WORDS[b as usize]);
+                }
+                text[line - 1] = b'\n';
+                made += 1;
+                at += line;
             }
-            text[line - 1] = b'\n';
-            made += 1;
-            at += line;
+            Verdict::LongRun => long_run += 1,
+            Verdict::GcAlone => gc_alone += 1,
         }
         tried += 1;
         seed = seed << 1 ^ (if seed >> 31 == 1 { 0xC5 } else { 0 });
@@ -419,6 +437,8 @@ pub fn write(
         made as u64,
         tried as u64,
         seed as u64,
+        long_run,
+        gc_alone,
     ];
     0
 }

@@ -1,5 +1,6 @@
 //! Section "Check bytes, letters, screen", with the read check and its C form,
-//! and Item 1 of document 02, "Runs over the joints".
+//! Item 1 of document 02, "Runs over the joints", and what Item 12, "Why strands
+//! were dropped", says of the screen.
 
 use crate::pool_card::{number_of_bytes, Handed};
 use crate::questions::{
@@ -255,16 +256,51 @@ pub fn gc_table() -> [u8; 256] {
     table
 }
 
-/// "The screen passes if no run of one base is longer than m and lo·n ≤ 1000·g
-/// ≤ hi·n, where g counts C and G over the n bases." In document 02, Item 1:
-/// "The GC rule still covers only the strand's n bases. Writer and read check
-/// use the same rule".
-pub fn screen(letters: &[u8], m: u8, lo: u16, hi: u16) -> bool {
-    let n = letters.len();
-    let g = count_gc(letters);
-    longest_run(letters) <= usize::from(m)
-        && usize::from(lo) * n <= 1000 * g
-        && 1000 * g <= usize::from(hi) * n
+/// Document 02, Item 12: "The screen now answers with the longest run and the C
+/// and G count instead of yes or no".
+#[derive(Clone, Copy, Debug, PartialEq, Eq)]
+pub struct Measure {
+    /// Counted as `longest_run` says, through the sites.
+    pub longest_run: usize,
+    /// "The GC rule still covers only the strand's n bases."
+    pub gc: usize,
+}
+
+/// The screen. It knows no limits; what it answers is the same for every card.
+pub fn screen(strand: &[u8]) -> Measure {
+    Measure {
+        longest_run: longest_run(strand),
+        gc: count_gc(strand),
+    }
+}
+
+/// What comes of a strand. Document 02, Item 12: "strands dropped for a run, and
+/// strands dropped for GC alone".
+#[derive(Clone, Copy, Debug, PartialEq, Eq)]
+pub enum Outcome {
+    Passes,
+    /// Its longest run is over m, whatever its C and G count is.
+    DroppedForRun,
+    /// Its longest run is within m, so that C and G are its only fault.
+    DroppedForGcAlone,
+}
+
+/// "and its callers compare": the one comparison of both callers, since "Writer
+/// and read check use the same rule" (document 02, Item 1). The rule is "The
+/// screen passes if no run of one base is longer than m and lo·n ≤ 1000·g ≤
+/// hi·n, where g counts C and G over the n bases."
+///
+/// The run comes first: a strand with both faults is not one of "GC alone".
+pub fn compare(measure: Measure, n_bases: usize, m: u8, lo: u16, hi: u16) -> Outcome {
+    if measure.longest_run > usize::from(m) {
+        return Outcome::DroppedForRun;
+    }
+    let g = measure.gc;
+    if usize::from(lo) * n_bases <= 1000 * g && 1000 * g <= usize::from(hi) * n_bases {
+        Outcome::Passes
+    } else {
+        Outcome::DroppedForGcAlone
+    }
 }
 
 // ---------------------------------------------------------------- read check
@@ -288,7 +324,9 @@ pub(crate) fn questions_9_to_13(handed: &Handed, read: &[u8]) -> Result<Droplet,
     ask(question_11(check_sums(&bytes, handed.r)), 11)?;
     let seed = number_of_bytes(&bytes[0..4]);
     ask(question_12(seed), 12)?;
-    ask(question_13(read, handed.m, handed.lo, handed.hi), 13)?;
+    let measure = screen(read);
+    let outcome = compare(measure, handed.n_bases(), handed.m, handed.lo, handed.hi);
+    ask(question_13(outcome), 13)?;
 
     let l = usize::from(handed.l);
     let mut payload = [0; 64];
@@ -580,13 +618,68 @@ mod tests {
 
     // ------------------------------------------------------------ screen
 
+    /// What comes of these letters under these limits.
+    fn outcome(letters: &[u8], m: u8, lo: u16, hi: u16) -> Outcome {
+        compare(screen(letters), letters.len(), m, lo, hi)
+    }
+
+    fn passes(letters: &[u8], m: u8, lo: u16, hi: u16) -> bool {
+        outcome(letters, m, lo, hi) == Outcome::Passes
+    }
+
+    /// Bench example: "Seed 1 of Q: .. longest run 15, g=6."
+    #[test]
+    fn the_screen_answers_a_measure() {
+        let measure = |longest_run, gc| Measure { longest_run, gc };
+        assert_eq!(screen(SEED_1), measure(15, 6));
+        assert_eq!(screen(b"GTAG"), measure(1, 2));
+        // Both through a joint; the site's C is not counted among C and G.
+        assert_eq!(screen(b"CCCG"), measure(4, 4));
+        assert_eq!(screen(b"ATTT"), measure(4, 0));
+    }
+
+    /// A strand with both faults is dropped for the run; for GC alone only one
+    /// whose longest run is within m.
+    #[test]
+    fn why_a_strand_is_dropped() {
+        use Outcome::*;
+        // Longest run 15, 6 of 28 are C or G: 214.28.. thousandths.
+        for (m, lo, hi, expected) in [
+            (15, 214, 215, Passes),
+            (15, 215, 1000, DroppedForGcAlone),
+            (15, 0, 214, DroppedForGcAlone),
+            (20, 215, 1000, DroppedForGcAlone),
+            (14, 214, 215, DroppedForRun),
+            (14, 215, 1000, DroppedForRun),
+            (14, 0, 214, DroppedForRun),
+            (1, 1000, 1000, DroppedForRun),
+            (1, 0, 0, DroppedForRun),
+        ] {
+            assert_eq!(outcome(SEED_1, m, lo, hi), expected, "{m} {lo} {hi}");
+        }
+    }
+
+    /// A run that only the site makes too long is a run all the same, also where
+    /// C and G are outside.
+    #[test]
+    fn dropped_for_a_joint() {
+        use Outcome::*;
+        assert_eq!(outcome(b"CCCA", 3, 750, 750), DroppedForRun);
+        assert_eq!(outcome(b"CCCA", 3, 0, 749), DroppedForRun);
+        assert_eq!(outcome(b"CCCA", 4, 0, 749), DroppedForGcAlone);
+        assert_eq!(outcome(b"GTTT", 3, 250, 250), DroppedForRun);
+        assert_eq!(outcome(b"GTTT", 3, 251, 1000), DroppedForRun);
+        assert_eq!(outcome(b"GTTT", 4, 251, 1000), DroppedForGcAlone);
+        assert_eq!(outcome(b"GTTT", 4, 250, 1000), Passes);
+    }
+
     /// Bench example: "It passes at m=15, lo=214; m=14 gives 13, and so does
     /// lo=215."
     #[test]
     fn bench_screen_of_seed_1() {
-        assert!(screen(SEED_1, 15, 214, 1000));
-        assert!(!screen(SEED_1, 14, 214, 1000));
-        assert!(!screen(SEED_1, 15, 215, 1000));
+        assert!(passes(SEED_1, 15, 214, 1000));
+        assert!(!passes(SEED_1, 14, 214, 1000));
+        assert!(!passes(SEED_1, 15, 215, 1000));
         assert!(read_check(&P, SEED_1).is_ok());
         assert_eq!(read_check(&Handed { m: 14, ..P }, SEED_1), Err(Refusal(13)));
         assert_eq!(
@@ -598,12 +691,12 @@ mod tests {
     /// The upper limit is not rounded either: 6 of 28 is 214.28.. thousandths.
     #[test]
     fn upper_gc_limit() {
-        assert!(screen(SEED_1, 15, 0, 215));
-        assert!(!screen(SEED_1, 15, 0, 214));
-        assert!(screen(b"GCGC", 1, 1000, 1000));
-        assert!(!screen(b"GCGA", 1, 751, 1000));
-        assert!(screen(b"GCGA", 1, 750, 750));
-        assert!(screen(b"TATA", 1, 0, 0));
+        assert!(passes(SEED_1, 15, 0, 215));
+        assert!(!passes(SEED_1, 15, 0, 214));
+        assert!(passes(b"GCGC", 1, 1000, 1000));
+        assert!(!passes(b"GCGA", 1, 751, 1000));
+        assert!(passes(b"GCGA", 1, 750, 750));
+        assert!(passes(b"TATA", 1, 0, 0));
     }
 
     #[test]
@@ -659,7 +752,7 @@ mod tests {
     #[test]
     fn runs_in_a_site_alone_do_not_count() {
         assert_eq!(longest_run(b"GTAG"), 1);
-        assert!(screen(b"GTAG", 1, 500, 500));
+        assert!(passes(b"GTAG", 1, 500, 500));
         assert_eq!(longest_run(b"GTTAG"), 2);
     }
 

@@ -3,6 +3,7 @@
 //! Each question is one function that says yes (true) or no (false) and quotes
 //! its line. The calls ask them in the order shown there.
 
+use crate::check_bytes_letters_screen::Outcome;
 use crate::pool_card::{k_of, numbers_of_weights, sum_of_weights};
 
 /// "The first "no" gives the number; a refusal holds that number only, and
@@ -105,8 +106,8 @@ pub fn question_12(seed: u32) -> bool {
 }
 
 /// "Screen passed? 13."
-pub fn question_13(read: &[u8], m: u8, lo: u16, hi: u16) -> bool {
-    crate::check_bytes_letters_screen::screen(read, m, lo, hi)
+pub fn question_13(outcome: Outcome) -> bool {
+    outcome == Outcome::Passes
 }
 
 /// "Shelving: count times (4+L) within the shelf? 14."

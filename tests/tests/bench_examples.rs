@@ -124,7 +124,9 @@ fn strand_of_seed_1() {
             stop: Stop::Done,
             made: 1,
             tried: 1,
-            next_seed: 2
+            next_seed: 2,
+            dropped_run: 0,
+            dropped_gc: 0
         })
     );
     assert_eq!(&buffer, b"AAAAAAAAAAAAAAACTGCAATCGTCAT\n?");
@@ -266,10 +268,12 @@ fn answer_at_m_3(seed: u32, strand: &str) -> Result<(), Refusal> {
     let sheet = listing(Some(&card), read);
     if answer.is_ok() {
         assert_eq!((written.stop, written.made), (Stop::Done, 1));
+        assert_eq!((written.dropped_run, written.dropped_gc), (0, 0));
         assert_eq!(printed, format!("{strand}\n").as_bytes());
         assert!(sheet.starts_with("reads 1 accepted 1 repeated 0 refused 0\n"));
     } else {
         assert_eq!((written.stop, written.made), (Stop::Spent, 0));
+        assert_eq!((written.dropped_run, written.dropped_gc), (1, 0));
         assert_eq!(printed, [b'?'; 29]);
         assert!(sheet.starts_with("reads 1 accepted 0 repeated 0 refused 1\n"));
     }

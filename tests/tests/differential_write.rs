@@ -3,6 +3,7 @@
 mod differential;
 
 use differential::cards::{self, Numbers};
+use differential::drops::{self, Fault};
 use differential::joints;
 use differential::lent::{hex, Lent};
 use differential::random::Random;
@@ -54,14 +55,14 @@ struct Case {
     /// Buffers as they are before the call.
     out: Vec<u8>,
     list: Vec<u32>,
-    answer: [u64; 4],
+    answer: [u64; 6],
 }
 
 /// A call's number and what it leaves in the buffers.
 struct After {
     number: u32,
     out: Vec<u8>,
-    answer: [u64; 4],
+    answer: [u64; 6],
 }
 
 impl Case {
@@ -77,8 +78,14 @@ impl Case {
             let seed = (0..random.below(4)).fold(start, |seed, _| schedule_step(seed));
             fit_screen(random, &mut numbers, &file, seed);
         }
-        let wanted = random.one_of(&[0, 1, 1, 2, 3, 6]);
-        let budget = random.one_of(&[0, 1, 1, 2, 3, 5, 8, 12]);
+        let mut wanted = random.one_of(&[0, 1, 1, 2, 3, 6]);
+        let mut budget = random.one_of(&[0, 1, 1, 2, 3, 5, 8, 12]);
+        if random.once_in(8) {
+            // Long enough for drops of both kinds, in each of two parts too.
+            drops::tighten(random, &mut numbers);
+            wanted = random.one_of(&[1, 3, 6]);
+            budget = random.one_of(&[5, 8, 12, 20]);
+        }
         let out_length = sizes::lent_for(random, wanted as usize * (numbers.n() + 1));
         let list_length = sizes::lent_for(random, numbers.d());
         let mut case = Case {
@@ -148,6 +155,8 @@ impl Case {
                     written.made as u64,
                     written.tried.into(),
                     written.next_seed.into(),
+                    written.dropped_run.into(),
+                    written.dropped_gc.into(),
                 ];
                 After {
                     number: 0,
@@ -183,7 +192,7 @@ impl Case {
             "out NULL and accepted",
         );
         regions.note_if(list.is_null(), "list NULL");
-        // Each pointer stands for as many items as its length says (four numbers for the answer), and nothing overlaps.
+        // Each pointer stands for as many items as its length says (six numbers for the answer), and nothing overlaps.
         let got = unsafe {
             fountain_write(
                 numbers.f,
@@ -236,7 +245,8 @@ impl Case {
             .map_err(|e| report(format!("out {}: {e}", hex(out.items()))))
     }
 
-    /// The same run in two parts, the second from the first one's next seed, gives the same strands.
+    /// The same run in two parts, the second from the first one's next seed, gives the same strands, and as many of them, seeds
+    /// and drops of each kind in sum.
     fn compare_resumed(
         &self,
         random: &mut Random,
@@ -247,7 +257,9 @@ impl Case {
         first.budget = random.below(whole.answer[2] as usize + 1) as u32;
         let after_first = first.expected();
         first.compare(random, regions, &after_first)?;
-        let [_, made, tried, next] = after_first.answer;
+        let [_, made, tried, next, for_run, for_gc] = after_first.answer;
+        let faults = self.faults(&self.strands_tried(whole));
+        drops::note_resumed(regions, &faults, tried as usize);
 
         let place = made as usize * (self.numbers.n() + 1);
         let mut rest = self.clone();
@@ -260,8 +272,16 @@ impl Case {
 
         let mut strands = after_first.out[..place].to_vec();
         strands.extend_from_slice(&after_rest.out);
-        let [stop, more, tried_more, next] = after_rest.answer;
-        if strands != whole.out || [stop, made + more, tried + tried_more, next] != whole.answer {
+        let [stop, made_more, tried_more, next, for_run_more, for_gc_more] = after_rest.answer;
+        let sums = [
+            stop,
+            made + made_more,
+            tried + tried_more,
+            next,
+            for_run + for_run_more,
+            for_gc + for_gc_more,
+        ];
+        if strands != whole.out || sums != whole.answer {
             return Err(format!(
                 "resumed after {tried} seeds, the run differs from one run; {}",
                 self.report()
@@ -325,8 +345,8 @@ impl Case {
         }
     }
 
-    fn note_written(&self, regions: &mut Regions, answer: [u64; 4], needed: usize) {
-        let [stop, made, tried, _] = answer;
+    fn note_written(&self, regions: &mut Regions, answer: [u64; 6], needed: usize) {
+        let [stop, made, tried, ..] = answer;
         sizes::note(regions, &self.numbers, self.start);
         regions.note_if(stop == 1, "spent");
         regions.note_if(
@@ -356,22 +376,45 @@ impl Case {
         regions.note_if(one_fell_out, "a one fell out of the seed");
     }
 
-    /// Notes the joints of the first strands tried, one of which the screen may be fitted to. A strand passed if the next line
-    /// starts with its seed.
-    fn note_strands(&self, regions: &mut Regions, after: &After) {
-        let [_, made, tried, _] = after.answer;
+    /// The strands tried, and whether each passed: one did if the next line starts with its seed.
+    fn strands_tried(&self, after: &After) -> Vec<(Vec<u8>, bool)> {
+        let [_, made, tried, ..] = after.answer;
         let n = self.numbers.n();
         let mut lines = after.out.chunks(n + 1).take(made as usize).peekable();
-        for seed in seeds_from(self.start).take(4.min(tried as usize)) {
-            let first_letters = letters_of_bytes(&seed.to_be_bytes());
-            match lines.next_if(|line| line.starts_with(&first_letters)) {
-                Some(line) => joints::note(regions, &self.numbers, &line[..n], true),
-                None => {
-                    let strand = strand_letters(&self.numbers.handed(), &self.file, seed);
-                    joints::note(regions, &self.numbers, &strand, false);
+        seeds_from(self.start)
+            .take(tried as usize)
+            .map(|seed| {
+                let first_letters = letters_of_bytes(&seed.to_be_bytes());
+                match lines.next_if(|line| line.starts_with(&first_letters)) {
+                    Some(line) => (line[..n].to_vec(), true),
+                    None => {
+                        let strand = strand_letters(&self.numbers.handed(), &self.file, seed);
+                        (strand, false)
+                    }
                 }
-            }
+            })
+            .collect()
+    }
+
+    /// Notes the joints and the faults of the strands tried. By these faults too strands were made or dropped, and counted.
+    fn note_strands(&self, regions: &mut Regions, after: &After) {
+        let strands = self.strands_tried(after);
+        for (strand, passed) in &strands {
+            joints::note(regions, &self.numbers, strand, *passed);
+            drops::note_strand(regions, &self.numbers, strand);
         }
+        let faults = self.faults(&strands);
+        let [stop, made, tried, _, for_run, for_gc] = after.answer;
+        assert_eq!([for_run, for_gc], drops::two_numbers(&faults), "the drops");
+        assert_eq!(tried, made + for_run + for_gc, "the seeds tried");
+        drops::note_run(regions, &faults, stop == 1);
+    }
+
+    fn faults(&self, strands: &[(Vec<u8>, bool)]) -> Vec<Fault> {
+        strands
+            .iter()
+            .map(|(strand, _)| Fault::of(&self.numbers, strand))
+            .collect()
     }
 }
 
@@ -430,13 +473,13 @@ fn print_at_joint(random: &mut Random, numbers: &Numbers, file: &mut [u8]) -> u3
     seed
 }
 
-/// Sets the screen so that the seed's strand just passes or just misses it.
+/// Sets the screen so that the seed's strand just passes it, just misses it, or is outside of more than one limit.
 fn fit_screen(random: &mut Random, numbers: &mut Numbers, file: &[u8], seed: u32) {
     let strand = strand_letters(&numbers.handed(), file, seed);
-    if random.once_in(3) {
-        reads::let_miss(random, numbers, &strand);
-    } else {
-        reads::let_pass(random, numbers, &strand);
+    match random.below(9) {
+        0..=2 => reads::let_miss(random, numbers, &strand),
+        3 | 4 => drops::let_miss_gc(random, numbers, &strand),
+        _ => reads::let_pass(random, numbers, &strand),
     }
 }
 
@@ -469,7 +512,7 @@ fn late_collisions() {
         budget: 3,
         out,
         list: vec![7; cards::D_MOST + 1],
-        answer: [9; 4],
+        answer: [9; 6],
         numbers,
     };
     for _ in 0..20 {
@@ -490,6 +533,7 @@ fn write() {
             cards::HANDED_REGIONS,
             sizes::REGIONS,
             joints::REGIONS,
+            drops::REGIONS,
             REGIONS,
         ],
         case,

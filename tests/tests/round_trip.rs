@@ -43,6 +43,8 @@ fn a_file_comes_back() {
     )
     .unwrap();
     assert_eq!((answer.stop, answer.made), (Stop::Done, 300));
+    assert!(answer.dropped_run > 0 && answer.dropped_gc > 0);
+    assert_eq!(answer.tried, 300 + answer.dropped_run + answer.dropped_gc);
     let strands: Vec<&[u8]> = printed.chunks(113).map(|line| &line[..112]).collect();
 
     for trial in 1..=20u32 {

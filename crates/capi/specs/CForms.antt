@@ -29,9 +29,10 @@ abbrev pub stopNumber : Stop → ℕ
 stopNumber Done = 0
 stopNumber Spent = 1
 
--- the writer: the stop, made, tried and the next seed
+-- the writer: the stop, made, tried, the next seed, strands dropped for a run and for GC alone
 unfoldable pub writeReturned : List ℕ → Written → Returned
-writeReturned answer (Written.written stop made tried next) = returned 0 (stopNumber stop ∷ (made ∷ (tried ∷ (next ∷ []))))
+writeReturned answer (Written.written stop made tried next droppedRun droppedGc) =
+    returned 0 (stopNumber stop ∷ (made ∷ (tried ∷ (next ∷ (droppedRun ∷ (droppedGc ∷ []))))))
 writeReturned answer (Written.refusal n) = returned n answer
 
 -- the writer's C form: number and answer, and buffer and number list at exit

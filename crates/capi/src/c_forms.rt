@@ -48,7 +48,7 @@ fn stop_number(stop: Stop) -> u64
     }
 }
 
-// The writer: the stop, made, tried and the next seed.
+// The writer: the stop, made, tried, the next seed, and the strands dropped for a run and for GC alone.
 #[no_mangle]
 pub extern "C" fn fountain_write(
     f: u32,
@@ -64,7 +64,7 @@ pub extern "C" fn fountain_write(
     budget: u32,
     out: &mut [u8],
     list: &mut [u32],
-    answer: &mut [u64; 4],
+    answer: &mut [u64; 6],
 ) -> u32
     ensures { λ n. ⌜ WriteForm (record { f = f; l = l; r = r; m = m; lo = lo; hi = hi }) (now (weights .entry)) (now (file .entry)) start wanted budget
         (now (out .entry)) (now (list .entry)) (now (answer .entry)) n (now (out .exit)) (now (list .exit)) (now (answer .exit)) ⌝ }
@@ -79,6 +79,8 @@ pub extern "C" fn fountain_write(
                 run.made as u64,
                 run.tried as u64,
                 run.next as u64,
+                run.dropped.run as u64,
+                run.dropped.gc as u64,
             ];
             0
         }

@@ -1,14 +1,12 @@
 -- A strand that the writer prints for a file spells the word of a seed that passes the screen, from 1 to 2^32 - 1.
 -- Assumes nothing.
-use mathlib.Core.Path.{_≡_, refl, sym, ap, _∙_, subst}
+use mathlib.Core.Path.{_≡_, sym, ap, _∙_, subst}
 use mathlib.Core.Bool.{true}
 use mathlib.Core.List.{List, [], _∷_, _++_, append-assoc}
 use mathlib.Core.Logic.{inl, inr}
 use Prim.Native.Nat.{ℕ, zero, suc, _+_, _*_, _^_, _<_}
 use native.Mathlib.Nat.{zero-mul, suc-mul, add-comm}
 use native.Mathlib.Omega.{arith}
-use borrow.Author.Tests.{eqb-true}
-use lib.Dec.{eqb}
 use lib.ListN.{length, getD, take, drop}
 use lib.Seq.{take-at, drop-at, drop-drop}
 use Rattle.field.specs.Bytes.{All}
@@ -19,15 +17,15 @@ use Rattle.field.proofs.Tests.{either}
 use Rattle.droplet.specs.declared.card.Card.{Card}
 use Rattle.droplet.specs.PoolCard.{strandBases}
 use Rattle.droplet.specs.Questions.{cardRefusal}
-use Rattle.strand.specs.declared.writer.WriteAnswer.the-variants as writer
+use Rattle.strand.specs.declared.limits.Verdict.the-variants.{Passes}
 use Rattle.strand.specs.Letters.{wordLetters}
 use Rattle.strand.specs.Screen.{screenPasses}
-use Rattle.strand.specs.Writer.{seedWord, strandLine, RunEnd, runEnd, writerRun, passing, passingFirst, strandLines, writerRefusal, Written, written, refusal, writeAnswer, runAnswer, runText}
+use Rattle.strand.specs.Writer.{seedWord, strandLine, writerRefusal}
+use Rattle.strand.specs.WriterRuns.{seedsWith, passingFirst, strandLines}
 use Rattle.strand.proofs.Spelling.{letters-length}
 use Rattle.strand.proofs.SeedWords.{word-length}
-use Rattle.strand.proofs.Runs.{run-facts}
 use Rattle.strand.proofs.Lines.{line-length}
-use Rattle.strand.proofs.WriterAnswers.{roomy, own}
+use Rattle.strand.proofs.WriterAnswers.{roomy, own, answers-run}
 use Rattle.decoder.specs.Vault.{PrintedStrand}
 
 -- a seed whose strand is printed
@@ -50,14 +48,9 @@ unfolding seedsFrom
 scheduled zero seed h = tt
 scheduled (suc n) seed h = (h, scheduled n (seedAfter seed) (step-positive seed (h .0) (h .1), step-lt seed))
 
--- how many strands an answer says were made
-abbrev madeBy : Written → ℕ
-madeBy (written stop made tried next) = made
-madeBy (refusal n) = 0
-
 module _ (c : Card) (ws file : List ℕ) where
-  passing-printable : (seeds : List ℕ) → All IsSeed seeds → All (Printable c ws file) (passing c ws file seeds)
-  unfolding passing
+  passing-printable : (seeds : List ℕ) → All IsSeed seeds → All (Printable c ws file) (seedsWith Passes c ws file seeds)
+  unfolding seedsWith screenPasses
   passing-printable [] h = tt
   passing-printable (seed ∷ seeds) h =
       let rest = passing-printable seeds (h .1) in
@@ -89,19 +82,6 @@ module _ (c : Card) (ws file : List ℕ) where
       ∙ ap (λ l. drop (i * m) (drop m l)) (append-assoc line lines rest) ∙ ap (drop (i * m)) (drop-at line (lines ++ rest) m (line-length c ws file seed)))
       ∙ line-at seeds rest i (omega arith)
 
-  -- of what a run wrote
-  run-line : (start wanted budget : ℕ) → IsSeed start → (w : RunEnd) → writerRun c ws file start wanted budget ≡ w → (rest : List ℕ) (i : ℕ)
-      → i < madeBy (runAnswer w) → SeedOf c ws file (take (strandBases c) (drop (i * (strandBases c + 1)) (runText w ++ rest)))
-  run-line start wanted budget s (runEnd stop made tried next text) e rest i b =
-      let facts = run-facts c ws file start wanted budget stop made tried next text e in
-      let seeds = passingFirst c ws file start tried in
-      let h : i < length seeds = subst (λ n. i < n) (facts .counts) b in
-      record {
-        seed = getD seeds i 0;
-        printable = all-at (Printable c ws file) seeds 0 (passing-printable (seedsFrom tried start) (scheduled tried start s)) i h;
-        spells = rw (facts .prints) (line-at seeds rest i h);
-      }
-
   module _ (fine : cardRefusal c ws ≡ 0) where
     start-positive : (start wanted buffer numbers : ℕ) → writerRefusal c ws (length file) start wanted buffer numbers ≡ 0 → 0 < start
     start-positive start wanted buffer numbers e =
@@ -110,19 +90,13 @@ module _ (c : Card) (ws file : List ℕ) where
 
     pub printed-seed : (read : List ℕ) → PrintedStrand c ws file read → SeedOf c ws file read
     printed-seed read p =
-        let no = writerRefusal c ws (length file) (p .start) (p .wanted) (length (p .out)) (length (p .list)) in
-        let w = writerRun c ws file (p .start) (p .wanted) (p .budget) in
-        elim (either (eqb no 0)) [
-          | inl t ↦
-              let says : writeAnswer (writer.Written (p .run)) ≡ runAnswer w = rw t at (p .wrote .says) in
-              let prints : p .out′ ≡ runText w ++ drop (length (runText w)) (p .out) = rw t at (p .wrote .leaves .prints) in
-              let positive = start-positive (p .start) (p .wanted) (length (p .out)) (length (p .list)) (eqb-true no 0 t) in
-              subst (SeedOf c ws file)
-              (sym (p .letters ∙ ap (λ (l : List ℕ). take (strandBases c) (drop (p .line * (strandBases c + 1)) l)) prints))
-              (run-line (p .start) (p .wanted) (p .budget) (positive, p .fits) w refl (drop (length (runText w)) (p .out)) (p .line)
-              (subst (λ n. p .line < n) (ap madeBy says) (p .made)))
-          | inr t ↦
-              let says : writeAnswer (writer.Written (p .run)) ≡ refusal no = rw t at (p .wrote .says) in
-              let apart : _≡_ {A = ℕ} 0 1 = cc in
-              absurd (let z : ⊥ = omega arith in z)
-        ]
+        let ran = answers-run c ws file (p .start) (p .wanted) (p .budget) (p .out) (p .list) (p .run) (p .out′) (p .list′) (p .wrote) in
+        let positive = start-positive (p .start) (p .wanted) (length (p .out)) (length (p .list)) (ran .unrefused) in
+        let tried = p .run .tried in
+        let seeds = passingFirst c ws file (p .start) tried in
+        let h : p .line < length seeds = subst (λ n. p .line < n) (ran .facts .counts) (p .made) in
+        record {
+          seed = getD seeds (p .line) 0;
+          printable = all-at (Printable c ws file) seeds 0 (passing-printable (seedsFrom tried (p .start)) (scheduled tried (p .start) (positive, p .fits))) (p .line) h;
+          spells = rw (p .letters, ran .prints, ran .facts .prints) (line-at seeds _ (p .line) h);
+        }

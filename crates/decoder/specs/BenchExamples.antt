@@ -1,8 +1,8 @@
--- Document 01, "Bench examples": all starred lines, each part of each, and then document 02's examples, as rows of one list under
--- one proposition, over the definitions that the contracts cite. Assumes nothing.
+-- Document 01, "Bench examples": all starred lines, each part of each, and then examples of document 02's Items 1 and 12, as rows of
+-- one list under one proposition, over the definitions that the contracts cite. Assumes nothing.
 use mathlib.Core.Path.{_≡_, refl}
 use mathlib.Core.List.{List, [], _∷_}
-use Prim.Native.Nat.{ℕ, zero, suc}
+use Prim.Native.Nat.{ℕ, zero, suc, _*_}
 use lib.ListN.{replicate}
 use Rattle.field.specs.declared.generator.Draw.{Draw}
 use Rattle.field.specs.Bytes.{All, fromBigEndian, toBigEndian, xorLists, padded}
@@ -13,11 +13,12 @@ use Rattle.droplet.specs.declared.card.Card.{Card}
 use Rattle.droplet.specs.PoolCard.{numberAt, wellFormed, cardNumbers, cardWeights, weightCount, weightAt, firstWeights, segmentCount, strandBytes}
 use Rattle.droplet.specs.Questions.{sizesRight, limitsRight, weightsRight, cardRefusal, cardReadingRefusal, CardRead, cardReading}
 use Rattle.droplet.specs.Droplet.{degreeFrom, degree, member, pickFrom, degreeOf, segmentsOf, segment, payload}
+use Rattle.strand.specs.declared.writer.Stop.the-variants.{Done, Spent}
 use Rattle.strand.specs.Letters.{letterOf, letterBits, textLetters, lettersBases, allLetters, byteBases, wordBases, byteLetters, wordLetters, lettersByte, lettersWord}
 use Rattle.strand.specs.Sites.{siteBefore, siteAfter}
-use Rattle.strand.specs.Screen.{orderOf, withBase, longestOf, longestRun, gcCount, withinLimits, screenPasses}
+use Rattle.strand.specs.Screen.{orderOf, withBase, longestOf, longestRun, gcCount, measureOf, verdict, wordVerdict, screenPasses}
 use Rattle.strand.specs.ReadCheck.{Reading, droplet, refused, sumsZero, wordReading, lettersReading, readCheck, strandWord}
-use Rattle.strand.specs.Writer.{seedWord}
+use Rattle.strand.specs.Writer.{seedWord, oneTry, writeFrom, writerRun, ownRefusal, writerRefusal, Written, written, writerAnswer}
 use Rattle.decoder.specs.Store.{accepted, repeat, Kept, kept, recordBytes, recordText, recordPayload, recordFrom, records, sameBytes, findSeed, appended, compared, storeReading, storeRead}
 use Rattle.decoder.specs.Store.Stored.{refusal}
 use Rattle.decoder.specs.Restorer.{droplets, marked, missing, known, filled, filledBy, step, pass, present, peel, cleared, peelAll, contradicts, contradictions, hasSeed, roomRefusal, laterRefusal, restoreRefusal, restored, RestoreEnd, restoreEnd, restore}
@@ -28,9 +29,12 @@ bytesP =
     0x01 ∷ 0x00 ∷ 0x06 ∷ 0x00 ∷ 0x00 ∷ 0x00 ∷ 0x04 ∷ 0x01 ∷ 0x02 ∷ 0x02 ∷ 0x00 ∷ 0x05 ∷ 0x0F ∷ 0x00 ∷ 0xD6 ∷ 0x03 ∷ 0xE8 ∷ 0x03 ∷ 0x00 ∷ 0x08
     ∷ 0x00 ∷ 0x00 ∷ 0x00 ∷ 0x01 ∷ 0x00 ∷ 0x00 ∷ 0x00 ∷ 0x01 ∷ []
 
--- card P with another m and lo, D weights of one value (P's are 2 of value 1), and file Q
+-- card P with other limits, or with another m and lo alone, D weights of one value (P's are 2 of value 1), and file Q
+abbrev pub limitsP : ℕ → ℕ → ℕ → Card
+limitsP m lo hi = record { f = 4; l = 1; r = 2; m = m; lo = lo; hi = hi }
+
 abbrev pub cardP : ℕ → ℕ → Card
-cardP m lo = record { f = 4; l = 1; r = 2; m = m; lo = lo; hi = 1000 }
+cardP m lo = limitsP m lo 1000
 
 abbrev pub weights : ℕ → ℕ → List ℕ
 weights zero value = []
@@ -50,6 +54,7 @@ pub data Row : Type 0 where
   steps : ℕ → ℕ → Row
   answers : List ℕ → ℕ → Row
   restores : List (List ℕ) → RestoreEnd → Row
+  writes : Card → ℕ → ℕ → ℕ → Written → Row
 
 -- the first numbers drawn from a state, as many as the list has
 abbrev pub drawnFrom : Draw → List ℕ → List ℕ
@@ -83,6 +88,7 @@ Holds (reads m lo letters reading) = readCheck (cardP m lo) (weights 2 1) letter
 Holds (steps s t) = seedAfter s ≡ t
 Holds (answers ws n) = cardRefusal (cardP 15 214) ws ≡ n
 Holds (restores offered end) = restoreAfter offered (replicate 20 7) 0 ≡ end
+Holds (writes c start wanted budget answer) = writerAnswer c (weights 2 1) fileQ start wanted budget (wanted * 29) 2 ≡ answer
 
 -- the strands of seeds 1, 2 and 3
 abbrev pub letters1 : List ℕ
@@ -117,6 +123,8 @@ runsOfTwo = textLetters "ATCTCCATTAGCGTTCTTGGTAAGAGGA"
 abbrev pub noRuns : List ℕ
 noRuns = textLetters "GACAGTATCTCGCATGCTCTGCTATGCA"
 
+-- the last four: ten strands of Q, with the strands dropped on the way under three pairs of limits, and a budget that is spent on a
+-- strand with both faults (document 02, Item 12)
 abbrev pub rows : List Row
 rows =
     cards bytesP (cardP 15 214) (weights 2 1)
@@ -147,10 +155,14 @@ rows =
     ∷ reads 3 214 startsWithGCC (droplet 0x9681F4A1 (0x33 ∷ []))
     ∷ reads 2 214 runsOfTwo (droplet 0x3753C9BD (0xFA ∷ []))
     ∷ reads 1 214 noRuns (droplet 0x84B3764E (0x77 ∷ []))
+    ∷ writes (limitsP 3 450 550) 0x12345678 10 1000 (written Done 10 62 0xD862C7F9 23 29)
+    ∷ writes (limitsP 4 450 550) 0x12345678 10 1000 (written Done 10 49 0x506EC32B 7 32)
+    ∷ writes (limitsP 3 400 600) 0x12345678 10 1000 (written Done 10 13 0x8ACEB9DE 2 1)
+    ∷ writes (limitsP 3 450 550) 0x12345678 10 20 (written Spent 2 20 0x675CDD91 5 13)
     ∷ []
 
 pub examples : All Holds rows
-unfolding cardReading cardReadingRefusal wellFormed cardNumbers seedAfter seedWord segmentsOf degreeOf degree degreeFrom pickFrom member ofSeed afterDraw numberDrawn xorshift segment payload padded strandWord toBigEndian fromBigEndian parity remainderAfter xorLists multiple byRoot timesPower double shiftUp horner syndromes cardRefusal sizesRight limitsRight weightsRight segmentCount strandBytes firstWeights weightAt numberAt letterOf letterBits allLetters byteBases wordBases byteLetters wordLetters lettersByte lettersWord textLetters lettersBases siteBefore siteAfter orderOf withBase longestOf longestRun gcCount withinLimits screenPasses sumsZero wordReading lettersReading readCheck recordBytes recordText recordPayload recordFrom records sameBytes findSeed appended compared storeReading storeRead droplets marked missing known filled filledBy step pass present peel cleared peelAll contradicts contradictions hasSeed roomRefusal laterRefusal restoreRefusal restore
+unfolding cardReading cardReadingRefusal wellFormed cardNumbers seedAfter seedWord segmentsOf degreeOf degree degreeFrom pickFrom member ofSeed afterDraw numberDrawn xorshift segment payload padded strandWord toBigEndian fromBigEndian parity remainderAfter xorLists multiple byRoot timesPower double shiftUp horner syndromes cardRefusal sizesRight limitsRight weightsRight segmentCount strandBytes firstWeights weightAt numberAt letterOf letterBits allLetters byteBases wordBases byteLetters wordLetters lettersByte lettersWord textLetters lettersBases siteBefore siteAfter orderOf withBase longestOf longestRun gcCount measureOf verdict wordVerdict screenPasses sumsZero wordReading lettersReading readCheck recordBytes recordText recordPayload recordFrom records sameBytes findSeed appended compared storeReading storeRead droplets marked missing known filled filledBy step pass present peel cleared peelAll contradicts contradictions hasSeed roomRefusal laterRefusal restoreRefusal restore oneTry writeFrom writerRun ownRefusal writerRefusal
 examples = (
   (refl, refl),
   (
@@ -167,7 +179,7 @@ examples = (
               refl,
               (
                 (refl, refl, refl, refl),
-                (refl, (refl, (refl, (refl, (refl, (refl, (refl, (refl, (refl, (refl, (refl, (refl, (refl, (refl, (refl, (refl, (refl, (refl, (refl, tt))))))))))))))))))),
+                (refl, (refl, (refl, (refl, (refl, (refl, (refl, (refl, (refl, (refl, (refl, (refl, (refl, (refl, (refl, (refl, (refl, (refl, (refl, (refl, (refl, (refl, (refl, tt))))))))))))))))))))))),
               ),
             ),
           ),

@@ -11,7 +11,7 @@ use Rattle.droplet.specs.PoolCard.{numberAt, weightAt, firstWeights, segmentCou
 use Rattle.droplet.specs.Questions.{sizesRight, limitsRight, weightsRight, cardRefusal}
 use Rattle.strand.specs.Letters.{letterBits, textLetters, lettersBases, allLetters, byteBases, wordBases, lettersByte, lettersWord}
 use Rattle.strand.specs.Sites.{siteBefore, siteAfter}
-use Rattle.strand.specs.Screen.{orderOf, withBase, longestOf, longestRun, gcCount, withinLimits, screenPasses}
+use Rattle.strand.specs.Screen.{orderOf, withBase, longestOf, longestRun, gcCount, measureOf, verdict, wordVerdict, screenPasses}
 use Rattle.strand.specs.ReadCheck.{sumsZero, wordReading, lettersReading, readCheck}
 use Rattle.decoder.specs.Store.{recordBytes, recordText, recordPayload, recordFrom, records, sameBytes, findSeed, appended, compared, storeReading, storeRead}
 use Rattle.decoder.specs.BenchExamples.{cardP, weights, letters1, letters2, letters3}
@@ -49,5 +49,5 @@ rows =
     ∷ []
 
 pub examples : All Holds rows
-unfolding lastLine linesFrom afterAnswer afterLine listing toBigEndian fromBigEndian timesPower double shiftUp horner syndromes cardRefusal sizesRight limitsRight weightsRight segmentCount strandBytes firstWeights weightAt numberAt letterBits allLetters byteBases wordBases lettersByte lettersWord textLetters lettersBases siteBefore siteAfter orderOf withBase longestOf longestRun gcCount withinLimits screenPasses sumsZero wordReading lettersReading readCheck recordBytes recordText recordPayload recordFrom records sameBytes findSeed appended compared storeReading storeRead
+unfolding lastLine linesFrom afterAnswer afterLine listing toBigEndian fromBigEndian timesPower double shiftUp horner syndromes cardRefusal sizesRight limitsRight weightsRight segmentCount strandBytes firstWeights weightAt numberAt letterBits allLetters byteBases wordBases lettersByte lettersWord textLetters lettersBases siteBefore siteAfter orderOf withBase longestOf longestRun gcCount measureOf verdict wordVerdict screenPasses sumsZero wordReading lettersReading readCheck recordBytes recordText recordPayload recordFrom records sameBytes findSeed appended compared storeReading storeRead
 examples = (refl, (refl, (refl, (refl, (refl, (refl, (refl, (refl, tt))))))))

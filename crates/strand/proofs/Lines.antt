@@ -10,7 +10,8 @@ use lib.Seq.{take-at, drop-at, length-take-le}
 use Rattle.droplet.specs.declared.card.Card.{Card}
 use Rattle.droplet.specs.PoolCard.{strandBases}
 use Rattle.strand.specs.declared.writer.Stop.{Stop}
-use Rattle.strand.specs.Writer.{seedWord, strandLine, strandLines, runEnd, writerRun}
+use Rattle.strand.specs.Writer.{seedWord, strandLine, Progress, runEnd, writerRun}
+use Rattle.strand.specs.WriterRuns.{strandLines}
 use Rattle.strand.specs.Loops.{withText}
 use Rattle.strand.proofs.Spelling.{letters-length}
 use Rattle.strand.proofs.SeedWords.{word-length}
@@ -26,10 +27,10 @@ module _ (c : Card) (ws file : List ℕ) where
   lines-length [] = omega arith
   lines-length (seed ∷ seeds) = rw (suc-mul, length-append, lines-length seeds, line-length seed) (omega arith)
 
-  pub text-length : (start wanted budget : ℕ) (stop : Stop) (made tried next : ℕ) (text : List ℕ)
-      → writerRun c ws file start wanted budget ≡ runEnd stop made tried next text → length text ≡ made * (strandBases c + 1)
-  text-length start wanted budget stop made tried next text e =
-      let f = run-facts c ws file start wanted budget stop made tried next text e in
+  pub text-length : (start wanted budget : ℕ) (stop : Stop) (p : Progress) → writerRun c ws file start wanted budget ≡ runEnd stop p
+      → length (p .text) ≡ p .made * (strandBases c + 1)
+  text-length start wanted budget stop p e =
+      let f = run-facts c ws file start wanted budget stop p e in
       ap length (f .prints) ∙ lines-length _ ∙ ap (λ n. n * (strandBases c + 1)) (sym (f .counts))
 
 -- a text in a buffer

@@ -9,7 +9,8 @@ use Rattle.droplet.specs.PoolCard.{segmentCount}
 use Rattle.droplet.specs.Droplet.{segmentsOf}
 use Rattle.droplet.proofs.Payload.{payload-length, payload-bytes}
 use Rattle.strand.specs.Screen.{screenPasses}
-use Rattle.strand.specs.Writer.{seedWord, passing}
+use Rattle.strand.specs.Writer.{seedWord}
+use Rattle.strand.specs.WriterRuns.{seedsWith}
 use Rattle.strand.specs.RoundTrip.{StrandsReadBack, RunsReadBack}
 use Rattle.strand.proofs.LegalStrands.{accepts-exactly}
 
@@ -28,7 +29,7 @@ strands-read-back c ws file seed legal bytes s p =
     })
 
 pub runs-read-back : RunsReadBack
-unfolding passing seedsFrom
+unfolding seedsWith seedsFrom screenPasses
 runs-read-back c ws file start zero legal bytes s = tt
 runs-read-back c ws file start (suc t) legal bytes s =
     let rest = runs-read-back c ws file (seedAfter start) t legal bytes (step-positive start (s .0) (s .1), step-lt start) in

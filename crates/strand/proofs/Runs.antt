@@ -1,121 +1,135 @@
--- A run writes the strands of the passing seeds among those it tried, stops at once when it is done, and can be resumed.
--- Assumes nothing.
+-- A run writes the strands of the passing seeds among those it tried, counts the others under why they were dropped, stops at once when
+-- it is done, and can be continued. Assumes nothing.
 use mathlib.Core.Path.{_≡_, refl, sym, ap, _∙_, subst}
-use mathlib.Core.Bool.{true, false}
+use mathlib.Core.Bool.{cond}
 use mathlib.Core.List.{List, [], _∷_, _++_, append-assoc, append-nil}
 use mathlib.Core.Logic.{inl, inr, _↔_}
-use Prim.Native.Nat.{ℕ, zero, suc, _+_, _-_, _<_, _≤_}
-use native.Mathlib.Nat.{zero-add, suc-add, add-suc, add-zero, add-assoc}
-use native.Mathlib.Numerals.{add-one}
+use Prim.Native.Nat.{ℕ, zero, suc, _+_, _-_, _<_}
+use native.Mathlib.Nat.{zero-add, add-zero, add-assoc}
 use native.Mathlib.Omega.{arith}
 use borrow.Author.Tests.{eq-eqb, ne-eqb, eqb-true, eqb-false}
-use lib.Dec.{eqb, lit≤}
+use lib.Dec.{eqb}
 use lib.ListN.{length, length-append}
 use Rattle.field.specs.Generator.{seedAfter, iterate, seedsFrom}
 use Rattle.field.proofs.Tests.{either}
 use Rattle.droplet.specs.declared.card.Card.{Card}
+use Rattle.strand.specs.declared.limits.Verdict.{Verdict}
+use Rattle.strand.specs.declared.limits.Verdict.the-variants.{Passes, LongRun, GcAlone}
 use Rattle.strand.specs.declared.writer.Stop.{Stop}
 use Rattle.strand.specs.declared.writer.Stop.the-variants.{Done, Spent}
-use Rattle.strand.specs.Screen.{screenPasses}
-use Rattle.strand.specs.Writer.{seedWord, strandLine, RunEnd, runEnd, writeFrom, writerRun, passing, passingFirst, strandLines, RunFacts, continuing}
+use Rattle.strand.specs.Screen.{wordVerdict, is}
+use Rattle.strand.specs.Writer.{seedWord, strandLine, Progress, progress, followed, judged, oneTry, RunEnd, runEnd, writeFrom, writerRun}
+use Rattle.strand.specs.WriterRuns.{seedsWith, passingFirst, strandLines, RunFacts, continuing, RunsContinue}
 
 module _ (c : Card) (ws file : List ℕ) where
   -- ---- the clauses
 
-  pub run-done : (wanted left seed made tried : ℕ) (text : List ℕ) → made ≡ wanted
-      → writeFrom c ws file wanted left seed made tried text ≡ runEnd Done made tried seed text
+  pub run-done : (wanted left : ℕ) (p : Progress) → p .made ≡ wanted → writeFrom c ws file wanted left p ≡ runEnd Done p
   unfolding writeFrom
-  run-done wanted zero seed made tried text e = rw (eq-eqb made wanted e)
-  run-done wanted (suc left) seed made tried text e = rw (eq-eqb made wanted e)
+  run-done wanted zero p e = rw (eq-eqb (p .made) wanted e)
+  run-done wanted (suc left) p e = rw (eq-eqb (p .made) wanted e)
 
-  pub run-spent : (wanted seed made tried : ℕ) (text : List ℕ) → (made ≡ wanted → ⊥)
-      → writeFrom c ws file wanted zero seed made tried text ≡ runEnd Spent made tried seed text
+  pub run-spent : (wanted : ℕ) (p : Progress) → (p .made ≡ wanted → ⊥) → writeFrom c ws file wanted zero p ≡ runEnd Spent p
   unfolding writeFrom
-  run-spent wanted seed made tried text n = rw (ne-eqb made wanted n)
+  run-spent wanted p n = rw (ne-eqb (p .made) wanted n)
 
-  pub run-pass : (wanted left seed made tried : ℕ) (text : List ℕ) → (made ≡ wanted → ⊥)
-      → screenPasses c (seedWord c ws file seed) ≡ true
-      → writeFrom c ws file wanted (suc left) seed made tried text
-      ≡ writeFrom c ws file wanted left (seedAfter seed) (suc made) (suc tried) (text ++ strandLine (seedWord c ws file seed))
+  pub run-try : (wanted left : ℕ) (p : Progress) → (p .made ≡ wanted → ⊥)
+      → writeFrom c ws file wanted (suc left) p ≡ writeFrom c ws file wanted left (followed p (oneTry c ws file (p .next)))
   unfolding writeFrom
-  run-pass wanted left seed made tried text n p = rw (ne-eqb made wanted n, p)
+  run-try wanted left p n = rw (ne-eqb (p .made) wanted n)
 
-  pub run-fail : (wanted left seed made tried : ℕ) (text : List ℕ) → (made ≡ wanted → ⊥)
-      → screenPasses c (seedWord c ws file seed) ≡ false
-      → writeFrom c ws file wanted (suc left) seed made tried text
-      ≡ writeFrom c ws file wanted left (seedAfter seed) made (suc tried) text
-  unfolding writeFrom
-  run-fail wanted left seed made tried text n p = rw (ne-eqb made wanted n, p)
+  -- ---- one seed
 
-  -- the first of a list of seeds, if it passes, and nothing otherwise
-  front : ℕ → List ℕ
-  front seed = passing c ws file (seed ∷ [])
+  -- how many strands had this verdict
+  tally : Verdict → Progress → ℕ
+  tally Passes p = p .made
+  tally LongRun p = p .droppedRun
+  tally GcAlone p = p .droppedGc
 
-  front-cons : (seed : ℕ) (seeds : List ℕ) → passing c ws file (seed ∷ seeds) ≡ front seed ++ passing c ws file seeds
-  unfolding passing front
-  front-cons seed seeds = elim (either (screenPasses c (seedWord c ws file seed))) [ inl p ↦ rw p | inr p ↦ rw p ]
+  judged-tally : (v w : Verdict) (seed : ℕ) (line : List ℕ) → tally v (judged w seed line) ≡ length (cond (is v w) (seed ∷ []) [])
+  unfolding tally
+  judged-tally Passes Passes seed line = omega arith
+  judged-tally Passes LongRun seed line = omega arith
+  judged-tally Passes GcAlone seed line = omega arith
+  judged-tally LongRun Passes seed line = omega arith
+  judged-tally LongRun LongRun seed line = omega arith
+  judged-tally LongRun GcAlone seed line = omega arith
+  judged-tally GcAlone Passes seed line = omega arith
+  judged-tally GcAlone LongRun seed line = omega arith
+  judged-tally GcAlone GcAlone seed line = omega arith
 
-  front-one : (seed : ℕ) → length (front seed) ≤ 1
-  unfolding passing front
-  front-one seed = elim (either (screenPasses c (seedWord c ws file seed))) [ inl p ↦ rw p (lit≤ tt) | inr p ↦ rw p (lit≤ tt) ]
+  record Once (p : Progress) : Type 0 where
+    once : p .tried ≡ 1
+    adds : p .made + (p .droppedRun + p .droppedGc) ≡ 1
 
-  -- both ways of a turn in one
-  run-step : (wanted left seed made tried : ℕ) (text : List ℕ) → (made ≡ wanted → ⊥)
-      → writeFrom c ws file wanted (suc left) seed made tried text
-      ≡ writeFrom c ws file wanted left (seedAfter seed) (made + length (front seed)) (suc tried) (text ++ strandLines c ws file (front seed))
-  unfolding passing front strandLines
-  run-step wanted left seed made tried text n =
-      elim (either (screenPasses c (seedWord c ws file seed))) [
-        | inl p ↦ rw (p, add-one, append-nil) (run-pass wanted left seed made tried text n p)
-        | inr p ↦ rw (p, add-zero, append-nil) (run-fail wanted left seed made tried text n p)
-      ]
+  judged-once : (w : Verdict) (seed : ℕ) (line : List ℕ) → Once (judged w seed line)
+  judged-once Passes seed line = record { once = refl; adds = omega arith }
+  judged-once LongRun seed line = record { once = refl; adds = omega arith }
+  judged-once GcAlone seed line = record { once = refl; adds = omega arith }
+
+  judged-next : (w : Verdict) (seed : ℕ) (line : List ℕ) → judged w seed line .next ≡ seedAfter seed
+  judged-next Passes seed line = refl
+  judged-next LongRun seed line = refl
+  judged-next GcAlone seed line = refl
+
+  judged-text : (w : Verdict) (seed : ℕ)
+      → judged w seed (strandLine (seedWord c ws file seed)) .text ≡ strandLines c ws file (cond (is Passes w) (seed ∷ []) [])
+  unfolding strandLines
+  judged-text Passes seed = rw append-nil
+  judged-text LongRun seed = refl
+  judged-text GcAlone seed = refl
+
+  tried-next : (seed : ℕ) → oneTry c ws file seed .next ≡ seedAfter seed
+  unfolding oneTry
+  tried-next seed = judged-next (wordVerdict c (seedWord c ws file seed)) seed _
+
+  tried-once : (seed : ℕ) → Once (oneTry c ws file seed)
+  unfolding oneTry
+  tried-once seed = judged-once (wordVerdict c (seedWord c ws file seed)) seed _
+
+  tried-tally : (v : Verdict) (seed : ℕ) → tally v (oneTry c ws file seed) ≡ length (seedsWith v c ws file (seed ∷ []))
+  unfolding oneTry seedsWith
+  tried-tally v seed = judged-tally v (wordVerdict c (seedWord c ws file seed)) seed _
+
+  tried-text : (seed : ℕ) → oneTry c ws file seed .text ≡ strandLines c ws file (seedsWith Passes c ws file (seed ∷ []))
+  unfolding oneTry seedsWith strandLines
+  tried-text seed = judged-text (wordVerdict c (seedWord c ws file seed)) seed
 
   -- ---- a run after another
 
-  -- a run that has made, tried and written so much already does as one that starts afresh
-  shifted : (made tried : ℕ) (text : List ℕ) (wanted left seed m t : ℕ) (x : List ℕ)
-      → writeFrom c ws file (made + wanted) left seed (made + m) (tried + t) (text ++ x)
-      ≡ continuing made tried text (writeFrom c ws file wanted left seed m t x)
-  shifted made tried text wanted zero seed m t x =
-      elim (either (eqb m wanted)) [
-        | inl e ↦ let h = eqb-true m wanted e in rw (run-done wanted zero seed m t x h) (run-done _ _ _ _ _ _ (ap (_+_ made) h))
-        | inr e ↦ let h = eqb-false m wanted e in rw (run-spent wanted seed m t x h) (run-spent _ _ _ _ _ (λ q. h (omega arith)))
-      ]
-  shifted made tried text wanted (suc left) seed m t x =
-      elim (either (eqb m wanted)) [
-        | inl e ↦ let h = eqb-true m wanted e in rw (run-done wanted (suc left) seed m t x h) (run-done _ _ _ _ _ _ (ap (_+_ made) h))
-        | inr e ↦
-            let h = eqb-false m wanted e in
-            rw (
-              run-step wanted left seed m t x h,
-              run-step (made + wanted) left seed (made + m) (tried + t) (text ++ x) (λ q. h (omega arith)),
-              append-assoc,
-              add-assoc,
-              ← add-suc,
-            )
-            (shifted made tried text wanted left (seedAfter seed) (m + length (front seed)) (suc t) (x ++ strandLines c ws file (front seed)))
-      ]
+  followed-assoc : (p q r : Progress) → followed (followed p q) r ≡ followed p (followed q r)
+  followed-assoc p q r = simp (add-assoc, append-assoc)
 
-  -- a run with b seeds more, given how it ended without them
-  more : ℕ → ℕ → RunEnd → RunEnd
-  more wanted b (runEnd Done made tried next text) = runEnd Done made tried next text
-  more wanted b (runEnd Spent made tried next text) = writeFrom c ws file wanted b next made tried text
+  stop-cases : {P : Type 0} (stop : Stop) → (stop ≡ Done → P) → (stop ≡ Spent → P) → P
+  stop-cases Done d s = d refl
+  stop-cases Spent d s = s refl
 
-  run-more : (wanted a b seed made tried : ℕ) (text : List ℕ)
-      → writeFrom c ws file wanted (a + b) seed made tried text ≡ more wanted b (writeFrom c ws file wanted a seed made tried text)
-  unfolding more
-  run-more wanted zero b seed made tried text =
-      elim (either (eqb made wanted)) [
-        | inl e ↦ let h = eqb-true made wanted e in rw (run-done wanted zero seed made tried text h) (run-done wanted _ seed made tried text h)
-        | inr e ↦ rw (run-spent wanted seed made tried text (eqb-false made wanted e), zero-add)
+  -- nothing tried yet
+  abbrev none : ℕ → Progress
+  none start = progress 0 0 start 0 0 []
+
+  after-none : (start : ℕ) (p : Progress) → followed (none start) p ≡ p
+  after-none start p = simp zero-add
+
+  before-none : (p : Progress) → followed p (none (p .next)) ≡ p
+  before-none p = simp (add-zero, append-nil)
+
+  -- a run that has come so far already does as one that starts afresh
+  shifted : (p : Progress) (wanted left : ℕ) (q : Progress)
+      → writeFrom c ws file (p .made + wanted) left (followed p q) ≡ continuing p (writeFrom c ws file wanted left q)
+  shifted p wanted zero q =
+      elim (either (eqb (q .made) wanted)) [
+        | inl e ↦ let h = eqb-true (q .made) wanted e in rw (run-done wanted zero q h) (run-done _ _ (followed p q) (ap (_+_ (p .made)) h))
+        | inr e ↦ let h = eqb-false (q .made) wanted e in rw (run-spent wanted q h) (run-spent _ (followed p q) (λ z. h (omega arith)))
       ]
-  run-more wanted (suc a) b seed made tried text =
-      elim (either (eqb made wanted)) [
-        | inl e ↦ let h = eqb-true made wanted e in rw (run-done wanted (suc a) seed made tried text h) (run-done wanted _ seed made tried text h)
+  shifted p wanted (suc left) q =
+      elim (either (eqb (q .made) wanted)) [
+        | inl e ↦ let h = eqb-true (q .made) wanted e in rw (run-done wanted (suc left) q h) (run-done _ _ (followed p q) (ap (_+_ (p .made)) h))
         | inr e ↦
-            let h = eqb-false made wanted e in
-            rw (suc-add, run-step wanted a seed made tried text h, run-step wanted (a + b) seed made tried text h)
-            (run-more wanted a b (seedAfter seed) (made + length (front seed)) (suc tried) (text ++ strandLines c ws file (front seed)))
+            let h = eqb-false (q .made) wanted e in
+            let one = oneTry c ws file (q .next) in
+            rw (run-try wanted left q h, run-try (p .made + wanted) left (followed p q) (λ z. h (omega arith)), followed-assoc p q one)
+            (shifted p wanted left (followed q one))
       ]
 
   -- ---- what a run did
@@ -123,12 +137,15 @@ module _ (c : Card) (ws file : List ℕ) where
   apart : Done ≡ Spent → ⊥
   apart q = let z : _≡_ {A = ℕ} 0 1 = cc in omega arith
 
-  none : (start wanted budget : ℕ) (stop : Stop) → (stop ≡ Done) ↔ (0 ≡ wanted) → (stop ≡ Spent → 0 ≡ budget)
-      → RunFacts c ws file start wanted budget stop 0 0 start []
-  unfolding passing strandLines seedsFrom iterate
-  none start wanted budget stop d s = record {
+  none-facts : (start wanted budget : ℕ) (stop : Stop) → (stop ≡ Done) ↔ (0 ≡ wanted) → (stop ≡ Spent → 0 ≡ budget)
+      → RunFacts c ws file start wanted budget stop (none start)
+  unfolding seedsWith strandLines seedsFrom iterate
+  none-facts start wanted budget stop d s = record {
     prints = refl;
     counts = refl;
+    adds-up = refl;
+    counts-runs = refl;
+    counts-gc = refl;
     steps = refl;
     in-budget = omega arith;
     not-more = omega arith;
@@ -137,89 +154,132 @@ module _ (c : Card) (ws file : List ℕ) where
     at-once = λ t h. absurd (let z : ⊥ = omega arith in z);
   }
 
+  with-cons : (v : Verdict) (seed : ℕ) (seeds : List ℕ)
+      → seedsWith v c ws file (seed ∷ seeds) ≡ seedsWith v c ws file (seed ∷ []) ++ seedsWith v c ws file seeds
+  unfolding seedsWith
+  with-cons v seed seeds = elim (either (is v (wordVerdict c (seedWord c ws file seed)))) [ inl p ↦ rw p | inr p ↦ rw p ]
+
   lines-append : (a b : List ℕ) → strandLines c ws file (a ++ b) ≡ strandLines c ws file a ++ strandLines c ws file b
   unfolding strandLines
   lines-append [] b = refl
   lines-append (s ∷ a) b = ap (_++_ (strandLine (seedWord c ws file s))) (lines-append a b) ∙ sym (append-assoc (strandLine (seedWord c ws file s)) _ _)
 
   Facts : ℕ → ℕ → ℕ → RunEnd → Type 0
-  Facts start wanted budget (runEnd stop made tried next text) = RunFacts c ws file start wanted budget stop made tried next text
+  Facts start wanted budget (runEnd stop p) = RunFacts c ws file start wanted budget stop p
 
   -- the start in front of a run from the seed after it
-  module _ (start w wanted budget : ℕ) (sum : length (front start) + w ≡ wanted) (some : 0 < wanted) where
+  module _ (start w wanted budget : ℕ) (sum : oneTry c ws file start .made + w ≡ wanted) (some : 0 < wanted) where
+    abbrev first : Progress
+    first = oneTry c ws file start
+
+    -- its count and theirs
+    counts-both : (v : Verdict) (t n : ℕ) → n ≡ length (seedsWith v c ws file (seedsFrom t (seedAfter start)))
+        → tally v first + n ≡ length (seedsWith v c ws file (seedsFrom (suc t) start))
+    unfolding seedsFrom
+    counts-both v t n e = rw (with-cons v start (seedsFrom t (seedAfter start)), length-append, tried-tally v start, e)
+
     earlier : (tried : ℕ) → ((t : ℕ) → t < tried → length (passingFirst c ws file (seedAfter start) t) < w)
         → (t : ℕ) → t < suc tried → length (passingFirst c ws file start t) < wanted
-    unfolding passing seedsFrom
+    unfolding seedsWith seedsFrom tally
     earlier tried f zero h = some
-    earlier tried f (suc t) h =
-        rw (front-cons start (seedsFrom t (seedAfter start)), length-append) (omega (arith, f t (omega arith)))
+    earlier tried f (suc t) h = omega (arith, sum, counts-both Passes t _ refl, f t (omega arith))
 
-    in-front : (r : RunEnd) → Facts (seedAfter start) w budget r
-        → Facts start wanted (suc budget) (continuing (length (front start)) 1 (strandLines c ws file (front start)) r)
-    unfolding Facts seedsFrom iterate
-    in-front (runEnd stop made tried next text) f =
-        let e : 1 + tried ≡ suc tried = omega arith in
-        let all = front-cons start (seedsFrom tried (seedAfter start)) in
-        rw e (record {
-          prints = rw (all, lines-append) (ap (_++_ (strandLines c ws file (front start))) (f .prints));
-          counts = rw (all, length-append) (ap (_+_ (length (front start))) (f .counts));
-          steps = f .steps;
-          in-budget = omega (arith, f .in-budget);
-          not-more = omega (arith, f .not-more);
-          done = (λ q. ap (_+_ (length (front start))) (f .done .0 q) ∙ sum, λ q. f .done .1 (omega arith));
-          spent = λ q. omega (arith, f .spent q);
-          at-once = earlier tried (f .at-once);
-        })
+    in-front : (r : RunEnd) → Facts (seedAfter start) w budget r → Facts start wanted (suc budget) (continuing first r)
+    unfolding Facts seedsFrom iterate tally
+    in-front (runEnd stop p) f =
+        let e : first .tried + p .tried ≡ suc (p .tried) = omega (arith, tried-once start .once) in
+        let all = with-cons Passes start (seedsFrom (p .tried) (seedAfter start)) in
+        record {
+          prints = rw (e, all, lines-append, tried-text start) (ap (_++_ (strandLines c ws file (seedsWith Passes c ws file (start ∷ [])))) (f .prints));
+          counts = rw e (counts-both Passes (p .tried) (p .made) (f .counts));
+          adds-up = omega (arith, tried-once start, f .adds-up);
+          counts-runs = rw e (counts-both LongRun (p .tried) (p .droppedRun) (f .counts-runs));
+          counts-gc = rw e (counts-both GcAlone (p .tried) (p .droppedGc) (f .counts-gc));
+          steps = rw e (f .steps);
+          in-budget = omega (arith, e, f .in-budget);
+          not-more = omega (arith, sum, f .not-more);
+          done = (λ q. ap (_+_ (first .made)) (f .done .0 q) ∙ sum, λ q. f .done .1 (omega arith));
+          spent = λ q. omega (arith, e, f .spent q);
+          at-once = rw e (earlier (p .tried) (f .at-once));
+        }
 
-    first-tried : writerRun c ws file start wanted (suc budget)
-        ≡ continuing (length (front start)) 1 (strandLines c ws file (front start)) (writerRun c ws file (seedAfter start) w budget)
+    first-tried : writerRun c ws file start wanted (suc budget) ≡ continuing first (writerRun c ws file (seedAfter start) w budget)
     unfolding writerRun
     first-tried =
-        rw zero-add at (run-step wanted budget start 0 0 [] (λ q. omega arith))
-        ∙ rw (sum, add-zero, append-nil) at (shifted (length (front start)) 1 (strandLines c ws file (front start)) w budget (seedAfter start) 0 0 [])
+        run-try wanted budget (none start) (λ q. omega arith) ∙ ap (writeFrom c ws file wanted budget) (after-none start first)
+        ∙ rw (sum, before-none first) at (shifted first w budget (none (first .next)))
+        ∙ ap (λ s. continuing first (writeFrom c ws file w budget (none s))) (tried-next start)
 
-  ran-done : (budget start wanted : ℕ) → 0 ≡ wanted → Facts start wanted budget (writerRun c ws file start wanted budget)
-  unfolding Facts writerRun
-  ran-done budget start wanted h =
-      rw (run-done wanted budget start 0 0 [] h) (none start wanted budget Done (λ _. h, λ _. refl) (λ q. absurd (apart q)))
+  -- ---- a run continued
 
-  -- a run does what document 01 says
-  ran : (budget start wanted : ℕ) → Facts start wanted budget (writerRun c ws file start wanted budget)
-  unfolding Facts writerRun
+  continuing-none : (start : ℕ) (r : RunEnd) → continuing (none start) r ≡ r
+  continuing-none start (runEnd stop p) = ap (runEnd stop) (after-none start p)
+
+  continuing-both : (p q : Progress) (r : RunEnd) → continuing (followed p q) r ≡ continuing p (continuing q r)
+  continuing-both p q (runEnd stop r) = ap (runEnd stop) (followed-assoc p q r)
+
+  Continues : ℕ → RunEnd → Type 0
+  Continues start (runEnd stop p) = (more b : ℕ) → (stop ≡ Spent → 0 < more)
+      → writerRun c ws file start (p .made + more) (p .tried + b) ≡ continuing p (writerRun c ws file (p .next) more b)
+
+  none-continues : (start : ℕ) (stop : Stop) → Continues start (runEnd stop (none start))
+  unfolding Continues
+  none-continues start stop more b _ = simp (zero-add, continuing-none start (writerRun c ws file start more b))
+
+  -- the start in front: it is tried first, since more than none is wanted
+  in-front-continues : (start wanted budget : ℕ) → 0 < wanted → (r : RunEnd) → Facts start wanted budget (continuing (oneTry c ws file start) r)
+      → Continues (seedAfter start) r → Continues start (continuing (oneTry c ws file start) r)
+  unfolding Facts Continues
+  in-front-continues start wanted budget some (runEnd stop p) f h =
+      λ more b spent.
+      let first = oneTry c ws file start in
+      let whole = followed first p in
+      let tries : whole .tried + b ≡ suc (p .tried + b) = omega (arith, tried-once start .once) in
+      let sum : first .made + (p .made + more) ≡ whole .made + more = omega arith in
+      let not-none : 0 < whole .made + more = stop-cases stop (λ q. omega (arith, f .done .0 q)) (λ q. omega (arith, spent q)) in
+      rw (tries, first-tried start (p .made + more) (whole .made + more) (p .tried + b) sum not-none, h more b spent)
+      (sym (continuing-both first p (writerRun c ws file (p .next) more b)))
+
+  -- ---- every run
+
+  Known : ℕ → ℕ → ℕ → RunEnd → Type 0
+  Known start wanted budget r = Facts start wanted budget r × Continues start r
+
+  none-done : (budget start wanted : ℕ) → 0 ≡ wanted → Known start wanted budget (writerRun c ws file start wanted budget)
+  unfolding Facts Known writerRun
+  none-done budget start wanted h =
+      rw (run-done wanted budget (none start) h)
+      (none-facts start wanted budget Done (λ _. h, λ _. refl) (λ q. absurd (apart q)), none-continues start Done)
+
+  none-spent : (start wanted : ℕ) → (0 ≡ wanted → ⊥) → Known start wanted zero (writerRun c ws file start wanted zero)
+  unfolding Facts Known writerRun
+  none-spent start wanted h =
+      rw (run-spent wanted (none start) h)
+      (none-facts start wanted zero Spent (λ q. absurd (apart (sym q)), λ q. absurd (h q)) (λ _. refl), none-continues start Spent)
+
+  ran : (budget start wanted : ℕ) → Known start wanted budget (writerRun c ws file start wanted budget)
+  unfolding Known
   ran zero start wanted =
-      elim (either (eqb 0 wanted)) [
-        | inl e ↦ ran-done zero start wanted (eqb-true 0 wanted e)
-        | inr e ↦
-            let h = eqb-false 0 wanted e in
-            rw (run-spent wanted start 0 0 [] h) (none start wanted zero Spent (λ q. absurd (apart (sym q)), λ q. absurd (h q)) (λ _. refl))
-      ]
+      elim (either (eqb 0 wanted)) [ inl e ↦ none-done zero start wanted (eqb-true 0 wanted e) | inr e ↦ none-spent start wanted (eqb-false 0 wanted e) ]
   ran (suc budget) start wanted =
       elim (either (eqb 0 wanted)) [
-        | inl e ↦ ran-done (suc budget) start wanted (eqb-true 0 wanted e)
+        | inl e ↦ none-done (suc budget) start wanted (eqb-true 0 wanted e)
         | inr e ↦
             let h = eqb-false 0 wanted e in
             let some : 0 < wanted = omega arith in
-            let w = wanted - length (front start) in
-            let sum : length (front start) + w ≡ wanted = omega (arith, front-one start) in
-            rw (first-tried start w wanted budget sum some)
-            (in-front start w wanted budget sum some (writerRun c ws file (seedAfter start) w budget) (ran budget (seedAfter start) w))
+            let w = wanted - oneTry c ws file start .made in
+            let sum : oneTry c ws file start .made + w ≡ wanted = omega (arith, tried-once start .adds) in
+            let rest = writerRun c ws file (seedAfter start) w budget in
+            let known = ran budget (seedAfter start) w in
+            let facts = in-front start w wanted budget sum some rest (known .0) in
+            rw (first-tried start w wanted budget sum some) (facts, in-front-continues start wanted (suc budget) some rest facts (known .1))
       ]
 
-  pub run-facts : (start wanted budget : ℕ) (stop : Stop) (made tried next : ℕ) (text : List ℕ)
-      → writerRun c ws file start wanted budget ≡ runEnd stop made tried next text
-      → RunFacts c ws file start wanted budget stop made tried next text
-  unfolding Facts
-  run-facts start wanted budget stop made tried next text e = subst (Facts start wanted budget) e (ran budget start wanted)
+  pub run-facts : (start wanted budget : ℕ) (stop : Stop) (p : Progress) → writerRun c ws file start wanted budget ≡ runEnd stop p
+      → RunFacts c ws file start wanted budget stop p
+  unfolding Facts Known
+  run-facts start wanted budget stop p e = subst (Facts start wanted budget) e (ran budget start wanted .0)
 
-  -- a run that was spent, resumed at its next seed with b seeds more, is the run over both budgets
-  pub resumed : (start wanted a b made tried next : ℕ) (text : List ℕ)
-      → writerRun c ws file start wanted a ≡ runEnd Spent made tried next text
-      → writerRun c ws file start wanted (a + b) ≡ continuing made tried text (writerRun c ws file next (wanted - made) b)
-  unfolding writerRun more
-  resumed start wanted a b made tried next text e =
-      let f = run-facts start wanted a Spent made tried next text e in
-      let m : made + 0 ≡ made = omega arith in
-      let n : tried + 0 ≡ tried = omega arith in
-      let w : made + (wanted - made) ≡ wanted = omega (arith, f .not-more) in
-      run-more wanted a b start 0 0 [] ∙ ap (more wanted b) e
-      ∙ rw (w, m, n, append-nil) at (shifted made tried text (wanted - made) b next 0 0 [])
+pub runs-continue : RunsContinue
+unfolding Continues Known
+runs-continue c ws file start wanted budget stop p e = subst (Continues c ws file start) e (ran c ws file budget start wanted .1)

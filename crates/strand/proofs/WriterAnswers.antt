@@ -5,7 +5,7 @@ use mathlib.Core.List.{List, _++_}
 use mathlib.Core.Logic.{inl, inr}
 use Prim.Native.Nat.{ℕ, _+_, _*_, _≤_}
 use native.Mathlib.Omega.{arith}
-use borrow.Author.Tests.{eq-eqb, ne-eqb, eqb-false, leb-true}
+use borrow.Author.Tests.{eq-eqb, ne-eqb, eqb-true, eqb-false, leb-true}
 use lib.Dec.{eqb, leb}
 use lib.ListN.{length, take, take-append-drop}
 use Rattle.field.proofs.Tests.{either}
@@ -16,8 +16,10 @@ use Rattle.droplet.proofs.Conjunctions.{and-true}
 use Rattle.droplet.proofs.LegalCard.{no-number}
 use Rattle.strand.specs.declared.writer.Run.{Run}
 use Rattle.strand.specs.declared.writer.WriteAnswer.the-variants as answer
-use Rattle.strand.specs.Writer.{ownRefusal, writerRefusal, WriterPromise}
+use Rattle.strand.specs.Writer.{RunEnd, runEnd, writerRun, ownRefusal, writerRefusal, refusal, writeAnswer, runAnswer, runText, WriterPromise}
+use Rattle.strand.specs.WriterRuns.{answeredProgress, AnswersRun}
 use Rattle.strand.specs.Loops.{Ran}
+use Rattle.strand.proofs.Runs.{run-facts}
 use Rattle.strand.proofs.Lines.{text-length}
 
 -- ---- the questions 5 to 8
@@ -85,7 +87,7 @@ module _ {c : Card} {ws file : List ℕ} {start wanted budget : ℕ} {out list :
         → WriterPromise c ws file start wanted budget out list (answer.Written run) out′ list′
     answered {run} {out′} e ran =
         let yes : eqb (writerRefusal c ws (length file) start wanted (length out) (length list)) 0 ≡ true = eq-eqb _ _ (own c ws (length file) start wanted _ _ legal ∙ sym e) in
-        let n = text-length c ws file start wanted budget _ _ _ _ _ (ran .ends) in
+        let n = text-length c ws file start wanted budget _ _ (ran .ends) in
         record {
           says = rw (yes, ran .ends);
           leaves = record {
@@ -96,3 +98,40 @@ module _ {c : Card} {ws file : List ℕ} {start wanted budget : ℕ} {out list :
             untouched = λ no. absurd (let z : _≡_ {A = ℕ} 0 1 = cc in let f : ⊥ = omega arith in f);
           };
         }
+
+-- ---- what an answer says of its run
+
+module _ (c : Card) (ws file : List ℕ) (start wanted budget : ℕ) (run : Run) where
+  -- the end of a run, at the numbers that were answered
+  answered-end : (w : RunEnd) → writerRun c ws file start wanted budget ≡ w → writeAnswer (answer.Written run) ≡ runAnswer w
+      → writerRun c ws file start wanted budget
+      ≡ runEnd (run .stop) (answeredProgress run (runText w))
+  answered-end (runEnd stop p) e says =
+      let s : run .stop ≡ stop = cc in
+      let m : run .made ≡ p .made = cc in
+      let t : run .tried ≡ p .tried = cc in
+      let n : run .next ≡ p .next = cc in
+      let r : run .dropped .run ≡ p .droppedRun = cc in
+      let g : run .dropped .gc ≡ p .droppedGc = cc in
+      rw (s, m, t, n, r, g) e
+
+pub answers-run : AnswersRun
+answers-run c ws file start wanted budget out list run out′ list′ p =
+    let no = writerRefusal c ws (length file) start wanted (length out) (length list) in
+    let w = writerRun c ws file start wanted budget in
+    elim (either (eqb no 0)) [
+      | inl t ↦
+          let says : writeAnswer (answer.Written run) ≡ runAnswer w = rw t at (p .says) in
+          let ends = answered-end c ws file start wanted budget run w refl says in
+          record {
+            unrefused = eqb-true no 0 t;
+            text = runText w;
+            ends = ends;
+            facts = run-facts c ws file start wanted budget _ _ ends;
+            prints = rw t at (p .leaves .prints);
+          }
+      | inr t ↦
+          let says : writeAnswer (answer.Written run) ≡ refusal no = rw t at (p .says) in
+          let apart : _≡_ {A = ℕ} 0 1 = cc in
+          absurd (let z : ⊥ = omega arith in z)
+    ]

@@ -1,6 +1,6 @@
 -- What the contracts of private functions cite. No sentence of document 01 stands here. Assumes nothing.
 use mathlib.Core.Path.{_≡_}
-use mathlib.Core.Bool.{cond, Bool}
+use mathlib.Core.Bool.{cond}
 use mathlib.Core.List.{List, [], _∷_, _++_, foldl}
 use Prim.Native.Nat.{ℕ, zero, suc, max, _≤_, _<_, _+_, _*_, _/_, _%_, _^_}
 use lib.Bits.{bitAnd, bitXor}
@@ -14,9 +14,11 @@ use Rattle.droplet.specs.Questions.{cardRefusal}
 use Rattle.strand.specs.declared.letters.Spelled.{Spelled}
 use Rattle.strand.specs.declared.letters.Spelled.the-variants.{Byte, Nothing}
 use Rattle.strand.specs.Letters.{Letter, Bits, Other, letterBits, allLetters, lettersByte}
+use Rattle.strand.specs.declared.limits.Verdict.{Verdict}
 use Rattle.strand.specs.declared.writer.Run.{Run}
-use Rattle.strand.specs.Screen.{gcCount, screenPasses}
+use Rattle.strand.specs.Screen.{gcCount, wordVerdict, screenPasses}
 use Rattle.strand.specs.Writer.{seedWord, strandLine, runEnd, writerRun}
+use Rattle.strand.specs.WriterRuns.{answeredProgress}
 
 -- the letter that a number stands for: two bits, and 32 or more for none
 unfoldable pub letterIn : ℕ → Letter
@@ -114,19 +116,19 @@ pub record Made (c : Card) (weights file : List ℕ) (seed : ℕ) (list list′ 
   pub fills : take (strandBytes c) word′ ≡ seedWord c weights file seed
   pub keeps : drop (weightCount weights) list′ ≡ drop (weightCount weights) list
 
--- a strand's line stands at a place of the buffer if it passes the screen, which the result says
-pub record Printed (c : Card) (word : List ℕ) (at : ℕ) (passed : Bool) (out out′ : List ℕ) : Type 0 where
-  pub says : passed ≡ screenPasses c word
+-- a strand's line stands at a place of the buffer if it passes the screen, and the result is the verdict on it
+pub record Printed (c : Card) (word : List ℕ) (at : ℕ) (v : Verdict) (out out′ : List ℕ) : Type 0 where
+  pub says : v ≡ wordVerdict c word
   pub prints : out′ ≡ cond (screenPasses c word) (withText at (strandLine word) out) out
 
 -- the same for the strand of a seed, with the number list as it was past D
-pub record Tried (c : Card) (weights file : List ℕ) (seed at : ℕ) (passed : Bool) (out list out′ list′ : List ℕ) : Type 0 where
-  pub printed : Printed c (seedWord c weights file seed) at passed out out′
+pub record Tried (c : Card) (weights file : List ℕ) (seed at : ℕ) (v : Verdict) (out list out′ list′ : List ℕ) : Type 0 where
+  pub printed : Printed c (seedWord c weights file seed) at v out out′
   pub keeps : drop (weightCount weights) list′ ≡ drop (weightCount weights) list
 
 -- the run ended so, with its text at the front of the buffer and the rest of the buffer as it was
 pub record Ran (c : Card) (weights file : List ℕ) (start wanted budget : ℕ) (run : Run) (out list out′ list′ : List ℕ) : Type 0 where
   pub ends : writerRun c weights file start wanted budget
-      ≡ runEnd (run .stop) (run .made) (run .tried) (run .next) (take (run .made * (strandBases c + 1)) out′)
+      ≡ runEnd (run .stop) (answeredProgress run (take (run .made * (strandBases c + 1)) out′))
   pub rest : drop (run .made * (strandBases c + 1)) out′ ≡ drop (run .made * (strandBases c + 1)) out
   pub keeps : drop (weightCount weights) list′ ≡ drop (weightCount weights) list

@@ -11,7 +11,8 @@ use Rattle.droplet.specs.Droplet.{segmentsOf, payload}
 use Rattle.strand.specs.Letters.{wordLetters}
 use Rattle.strand.specs.Screen.{screenPasses}
 use Rattle.strand.specs.ReadCheck.{droplet, readCheck}
-use Rattle.strand.specs.Writer.{seedWord, passingFirst}
+use Rattle.strand.specs.Writer.{seedWord}
+use Rattle.strand.specs.WriterRuns.{passingFirst}
 
 -- the strand of a seed is read back as its droplet
 abbrev pub ReadBack : Card → List ℕ → List ℕ → ℕ → Type 0

@@ -1,10 +1,14 @@
--- Document 01, "Check bytes, letters, screen": the screen, its runs as document 02, Item 1, has them. Assumes nothing.
+-- Document 01, "Check bytes, letters, screen": the screen, its runs as document 02, Item 1, has them, and what it
+-- answers as Item 12 does. Assumes nothing.
 use mathlib.Core.Bool.{Bool, true, false, cond, _&&_, _||_}
 use mathlib.Core.List.{List, [], _∷_, _++_, map, foldl}
 use Prim.Native.Nat.{ℕ, suc, _+_, _*_, max}
 use lib.Dec.{eqb, leb}
 use lib.ListN.{length}
 use Rattle.droplet.specs.declared.card.Card.{Card}
+use Rattle.strand.specs.declared.screen.Measure.{Measure}
+use Rattle.strand.specs.declared.limits.Verdict.{Verdict}
+use Rattle.strand.specs.declared.limits.Verdict.the-variants.{Passes, LongRun, GcAlone}
 use Rattle.strand.specs.Letters.{byteBases, wordBases, lettersBases}
 use Rattle.strand.specs.Sites.{siteBefore, siteAfter}
 
@@ -53,11 +57,32 @@ gcCount (b ∷ bs) = cond (eqb b 1) 1 (cond (eqb b 2) 1 0) + gcCount bs
 unfoldable pub byteGc : ℕ → ℕ
 byteGc b = gcCount (byteBases b)
 
--- "no run of one base is longer than m and lo·n ≤ 1000·g ≤ hi·n", over a longest run, a C and G count and n bases
-unfoldable pub withinLimits : Card → ℕ → ℕ → ℕ → Bool
-withinLimits c longest g n = leb longest (c .m) && leb (c .lo * n) (1000 * g) && leb (1000 * g) (c .hi * n)
+-- "The screen now answers with the longest run and the C and G count" (document 02, Item 12)
+unfoldable pub measureOf : List ℕ → Measure
+measureOf word = let bases = wordBases word in record { longest = longestRun bases; gc = gcCount bases }
+
+-- "its callers compare": "no run of one base is longer than m and lo·n ≤ 1000·g ≤ hi·n", over the measure of n bases, and where that
+-- is not so, why the strand is dropped: "for a run", or "for GC alone"
+unfoldable pub verdict : Card → Measure → ℕ → Verdict
+verdict c measure n =
+    let g = measure .gc in
+    cond (leb (measure .longest) (c .m)) (cond (leb (c .lo * n) (1000 * g) && leb (1000 * g) (c .hi * n)) Passes GcAlone) LongRun
+
+unfoldable pub wordVerdict : Card → List ℕ → Verdict
+wordVerdict c word = verdict c (measureOf word) (length (wordBases word))
+
+-- whether a verdict is this one
+abbrev pub is : Verdict → Verdict → Bool
+is Passes Passes = true
+is LongRun LongRun = true
+is GcAlone GcAlone = true
+is Passes LongRun = false
+is Passes GcAlone = false
+is LongRun Passes = false
+is LongRun GcAlone = false
+is GcAlone Passes = false
+is GcAlone LongRun = false
 
 -- "The screen passes"
 unfoldable pub screenPasses : Card → List ℕ → Bool
-screenPasses c word =
-    let bases = wordBases word in withinLimits c (longestRun bases) (gcCount bases) (length bases)
+screenPasses c word = is Passes (wordVerdict c word)

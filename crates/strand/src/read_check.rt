@@ -7,9 +7,12 @@ ghost use Rattle.strand.specs.ReadCheck.Reading.{refused};
 ghost use Rattle.strand.specs.Loops.{InRange, IsWord};
 use crate::droplet_bytes;
 use crate::letters;
+use crate::limits;
+use crate::limits::Verdict;
 use crate::screen;
 use droplet::card;
 use droplet::card::Bases;
+use droplet::card::Bytes;
 use droplet::card::Card;
 use droplet::card::PlanAnswer;
 use field::check_bytes;
@@ -71,7 +74,8 @@ fn check_word(card: Card, word: &[u8]) -> ReadAnswer
         if seed == 0 {
             return refuse(12);
         }
-        if screen::passes(card, word) {
+        let n = card::to_bases(Bytes(word.len()));
+        if let Verdict::Passes = limits::compare(card, screen::measure_of(word), n) {
             let end = 4 + card.l as usize;
             let payload = pad(&word[4..end]);
             return ReadAnswer {

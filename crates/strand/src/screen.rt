@@ -1,17 +1,12 @@
 ghost use mathlib.Core.Path.{_≡_};
 ghost use Prim.Native.Nat.{_+_, _/_, _≤_, _<_};
 ghost use lib.ListN.{length};
-ghost use Rattle.strand.specs.Letters.{wordBases};
-ghost use Rattle.strand.specs.Screen.{longestRun, gcCount, withinLimits, screenPasses};
+ghost use Rattle.strand.specs.Screen.{measureOf};
 ghost use Rattle.strand.specs.Loops.{MatchesOf};
 use crate::packed;
-use droplet::card;
-use droplet::card::Bases;
-use droplet::card::Bytes;
-use droplet::card::Card;
 
-// What the screen measures of a strand: its longest run of one base, counted through the sites of the order, and how many of its own
-// bases are C or G.
+// What the screen answers of a strand: its longest run of one base, counted through the sites of the order, and how many of its own
+// bases are C or G. Whether a card allows that, `limits` compares.
 pub struct Measure {
     pub longest: usize,
     pub gc: usize,
@@ -50,17 +45,17 @@ fn put_matches(matches: &mut [u64], word: &[u8], before: u64, after: u64) -> usi
 // differ from their neighbours, so that no run comes through from further off.
 fn measure_in(matches: &mut [u64], word: &[u8]) -> Measure
     requires { ⌜ (0 < length (now word)) × (length (now word) ≤ 72) × (length (now matches) ≡ length (now word) / 8 + 1) ⌝ }
-    ensures { λ r. ⌜ (r .longest ≡ longestRun (wordBases (now (word .entry)))) × (r .gc ≡ gcCount (wordBases (now (word .entry)))) ⌝ }
+    ensures { λ r. ⌜ r ≡ measureOf (now (word .entry)) ⌝ }
 {
     let gc = put_matches(&mut *matches, word, BEFORE, AFTER);
     let longest = packed::longest_run(&mut *matches);
     Measure { longest, gc }
 }
 
-// The longest run of a word's bases, and how many of them are C or G.
+// The screen.
 pub fn measure_of(word: &[u8]) -> Measure
     requires { ⌜ length (now word) ≤ 72 ⌝ }
-    ensures { λ r. ⌜ (r .longest ≡ longestRun (wordBases (now (word .entry)))) × (r .gc ≡ gcCount (wordBases (now (word .entry)))) ⌝ }
+    ensures { λ r. ⌜ r ≡ measureOf (now (word .entry)) ⌝ }
 {
     if word.len() == 0 {
         return Measure { longest: 0, gc: 0 };
@@ -68,26 +63,4 @@ pub fn measure_of(word: &[u8]) -> Measure
     let mut matches = [0u64; 10];
     let n = word.len() / 8 + 1;
     measure_in(&mut matches[..n], word)
-}
-
-// What the card allows of `n` bases. Both sides are whole numbers: nothing is rounded.
-fn within_limits(card: Card, measure: Measure, n: Bases) -> bool
-    requires { ⌜ (measure .gc ≤ 288) × (n .0 ≤ 288) ⌝ }
-    ensures { λ r. ⌜ r ≡ withinLimits card (measure .longest) (measure .gc) (n .0) ⌝ }
-{
-    if (card.m as usize) < measure.longest {
-        return false;
-    }
-    if 1000 * measure.gc < (card.lo as usize) * n.0 {
-        return false;
-    }
-    1000 * measure.gc <= (card.hi as usize) * n.0
-}
-
-// The screen.
-pub fn passes(card: Card, word: &[u8]) -> bool
-    requires { ⌜ length (now word) ≤ 72 ⌝ }
-    ensures { λ r. ⌜ r ≡ screenPasses card (now (word .entry)) ⌝ }
-{
-    within_limits(card, measure_of(word), card::to_bases(Bytes(word.len())))
 }

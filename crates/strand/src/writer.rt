@@ -8,6 +8,8 @@ ghost use Rattle.strand.specs.Writer.{strandLine, ownRefusal, WriterProm
 ghost use Rattle.strand.specs.Loops.{withText, Makable, Made, Printed, Tried, Ran};
 use crate::droplet_bytes;
 use crate::letters;
+use crate::limits;
+use crate::limits::Verdict;
 use crate::screen;
 use droplet::card;
 use droplet::card::Bytes;
@@ -24,12 +26,19 @@ pub enum Stop {
     Spent,
 }
 
+// How many strands were dropped for a run, and how many for their GC alone.
+pub struct Dropped {
+    pub run: u32,
+    pub gc: u32,
+}
+
 // How a writer run ended. `next` is the seed after the last one tried.
 pub struct Run {
     pub stop: Stop,
     pub made: u32,
     pub tried: u32,
     pub next: u32,
+    pub dropped: Dropped,
 }
 
 pub enum WriteAnswer {
@@ -78,16 +87,17 @@ fn write_line(word: &[u8], out: &mut [u8], at: usize)
     out[end] = 10;
 }
 
-// Writes a strand's line if the strand passes the screen.
-fn write_passing(card: Card, word: &[u8], out: &mut [u8], at: usize) -> bool
+// Writes a strand's line if the strand passes the screen, and answers the verdict on it.
+fn write_passing(card: Card, word: &[u8], out: &mut [u8], at: usize) -> Verdict
     requires { ⌜ (length (now word) ≤ 72) × (at + length (now word) * 4 + 1 ≤ length (now out)) ⌝ }
     ensures { λ r. ⌜ Printed card (now (word .entry)) at r (now (out .entry)) (now (out .exit)) ⌝ }
 {
-    if screen::passes(card, word) {
+    let n = card::to_bases(Bytes(word.len()));
+    let verdict = limits::compare(card, screen::measure_of(word), n);
+    if let Verdict::Passes = verdict {
         write_line(word, out, at);
-        return true;
     }
-    false
+    verdict
 }
 
 // The bytes of a strand's line: n letters and a newline.
@@ -98,7 +108,7 @@ fn line_bytes(card: Card) -> usize
     card::to_bases(card::strand_bytes(card)).0 + 1
 }
 
-// Tries a seed: whether its strand passes the screen, and if so its line is written from the place `at` of `out` on.
+// Tries a seed: the verdict on its strand, whose line is written from the place `at` of `out` on if it passes.
 fn try_seed(
     card: Card,
     plan: Plan,
@@ -109,7 +119,7 @@ fn try_seed(
     at: usize,
     list: &mut [u32],
     word: &mut [u8],
-) -> bool
+) -> Verdict
     requires { ⌜ Makable card (now weights) plan (now list) (now word) × (at + (strandBases card + 1) ≤ length (now out)) ⌝ }
     ensures { λ r. ⌜ Tried card (now (weights .entry)) (now (file .entry)) seed at r (now (out .entry)) (now (list .entry)) (now (out .exit)) (now (list .exit)) ⌝ }
 {
@@ -118,14 +128,15 @@ fn try_seed(
     write_passing(card, &word[..n], out, at)
 }
 
-fn ended(stop: Stop, made: u32, tried: u32, next: u32) -> Run
-    ensures { λ r. ⌜ r ≡ record { stop = stop; made = made; tried = tried; next = next } ⌝ }
+fn ended(stop: Stop, made: u32, tried: u32, next: u32, run: u32, gc: u32) -> Run
+    ensures { λ r. ⌜ r ≡ record { stop = stop; made = made; tried = tried; next = next; dropped = record { run = run; gc = gc } } ⌝ }
 {
     Run {
         stop,
         made,
         tried,
         next,
+        dropped: Dropped { run, gc },
     }
 }
 
@@ -149,19 +160,25 @@ fn run_seeds(
     let mut seed = start;
     let mut made = 0;
     let mut tried = 0;
+    let mut long_run = 0;
+    let mut gc_alone = 0;
     let mut at = 0;
     while made != wanted {
         if tried == budget {
-            return ended(Stop::Spent, made, tried, seed);
+            return ended(Stop::Spent, made, tried, seed, long_run, gc_alone);
         }
-        if try_seed(card, plan, weights, file, seed, out, at, list, word) {
-            made += 1;
-            at += line;
+        match try_seed(card, plan, weights, file, seed, out, at, list, word) {
+            Verdict::Passes => {
+                made += 1;
+                at += line;
+            }
+            Verdict::LongRun => long_run += 1,
+            Verdict::GcAlone => gc_alone += 1,
         }
         tried += 1;
         seed = generator::step_seed(seed);
     }
-    ended(Stop::Done, made, tried, seed)
+    ended(Stop::Done, made, tried, seed, long_run, gc_alone)
 }
 
 // The first of the questions 5 to 8 that says no, or 0. D is `degrees`; the others are the lengths of the file, the buffer and

@@ -8,6 +8,7 @@
 
 pub mod cards;
 pub mod check_read;
+pub mod drops;
 pub mod joints;
 pub mod lent;
 pub mod random;

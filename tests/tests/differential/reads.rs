@@ -51,7 +51,7 @@ pub fn read_of(numbers: &Numbers, seed: u32, payload: &[u8]) -> Vec<u8> {
     letters_of_bytes(&strand_bytes(seed, payload, numbers.r))
 }
 
-fn gc(read: &[u8]) -> usize {
+pub fn gc(read: &[u8]) -> usize {
     read.iter()
         .filter(|&&letter| letter == b'C' || letter == b'G')
         .count()

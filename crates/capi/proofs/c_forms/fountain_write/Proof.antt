@@ -25,7 +25,7 @@ returns c =
 returns-2 : tie.Need-returns-2
 unfolding writeReturned
 returns-2 c =
-    let s = c .before .before .before .before in
+    let s = c .before .before .before .before .before .before in
     let n = s .before .before in
     formed (n .before .before .before .before .before .before .write-strands .ensures) _ _ _ (rw (n .run .given .1, s .stop-number .ensures))
 
@@ -38,6 +38,8 @@ fountain-write-spec =
     (λ c. search needs)
     (λ c. search needs)
     (λ c κs. search needs)
+    (λ c. search needs)
+    (λ c. search needs)
     (λ c. search needs)
     (λ c. search needs)
     (λ c. search needs)

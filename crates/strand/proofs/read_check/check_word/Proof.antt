@@ -11,6 +11,8 @@ use Rattle.droplet.specs.declared.card.Card.{Card}
 use Rattle.strand.specs.declared.read_check.ReadOutcome.the-variants.{Droplet}
 use Rattle.strand.specs.ReadCheck.{Answers, allZero, sumsZero, wordSeed, wordPayload, wordReading}
 use Rattle.strand.specs.ReadCheck.Reading.{droplet}
+use Rattle.strand.specs.Screen.{wordVerdict}
+use Rattle.strand.proofs.Screening.{comparable, compared, not-passes, passes, fails}
 use Rattle.strand.proofs.ReadingCases.{word-fits, case-11, case-12, case-13, case-droplet}
 use borrow.Author.Needs.{needs}
 use Rattle.strand.proofs.read_check.check_word.Statement.{statement}
@@ -41,28 +43,43 @@ returns c =
     rw (case-12 (a .card) (a .word .now) (sums (a .card) (a .word .now) _ _ _ (z .before .all-zero .ensures) (z .before .before .syndromes-of .ensures) (z .if1 .taken))
     (sym (c .before .before .seed-of .ensures) ∙ c .before .if2 .taken)) (c .refuse .ensures)
 
-passes-requires : tie.Need-passes-requires
-passes-requires c κs = word-fits _ _ (c .before .before .before .before .before .before .pre) .1
+to-bases-requires : tie.Need-to-bases-requires
+to-bases-requires c κs = omega (arith, word-fits _ _ (c .before .before .before .before .before .before .pre) .1)
+
+measure-of-requires : tie.Need-measure-of-requires
+measure-of-requires c κs = word-fits _ _ (c .before .before .before .before .before .before .before .pre) .1
+
+compare-requires : tie.Need-compare-requires
+compare-requires c κs =
+    let s = c .before .before .before .before .before .before .before .before in
+    comparable (s .args .word .now) (c .measure-of .ensures) (c .before .to-bases .ensures) (word-fits _ _ (s .pre) .1)
+
+-- what the code compared is what question 13 asks
+screened : (c : tie.After-compare) → (let a = c .before .before .before .before .before .before .before .before .before .args in c .compare .result ≡ wordVerdict (a .card) (a .word .now))
+screened c = compared _ (c .before .measure-of .ensures) (c .before .before .to-bases .ensures) _ (c .compare .ensures)
 
 part-pad-end : tie.Need-part-pad-end
-part-pad-end c = omega (arith, word-fits _ _ (c .before .before .before .before .before .before .before .before .before .pre) .0)
+part-pad-end c = omega (arith, word-fits _ _ (c .before .before .before .before .before .before .before .before .before .before .before .before .pre) .0)
 
 returns-2 : tie.Need-returns-2
 returns-2 c =
-    let p = c .before .before .before .before in
-    let z = p .before .before .before in
+    let told = c .before .before .before in
+    let v = told .before .before in
+    let p = v .before .before .before in
+    let z = p .before .before in
     let a = z .before .before .before .before .args in
-    accepted (a .card) (a .word .now) (c .pad .result) (p .before .before .seed-of .result)
+    accepted (a .card) (a .word .now) (c .pad .result) (p .before .seed-of .result)
     (case-droplet (a .card) (a .word .now) (sums (a .card) (a .word .now) _ _ _ (z .before .all-zero .ensures) (z .before .before .syndromes-of .ensures) (z .if1 .taken))
-    (λ s. p .before .if2 .left (p .before .before .seed-of .ensures ∙ s)) (sym (p .passes .ensures) ∙ c .before .before .before .if3 .taken)) (p .before .before .seed-of .ensures) (c .pad .ensures)
+    (λ s. p .if2 .left (p .before .seed-of .ensures ∙ s)) (passes _ _ (screened v) (told .enum-told .given .1))) (p .before .seed-of .ensures) (c .pad .ensures)
 
 returns-3 : tie.Need-returns-3
 returns-3 c =
-    let p = c .before .before in
-    let z = p .before .before .before in
+    let v = c .before .before in
+    let p = v .before .before .before in
+    let z = p .before .before in
     let a = z .before .before .before .before .args in
     rw (case-13 (a .card) (a .word .now) (sums (a .card) (a .word .now) _ _ _ (z .before .all-zero .ensures) (z .before .before .syndromes-of .ensures) (z .if1 .taken))
-    (λ s. p .before .if2 .left (p .before .before .seed-of .ensures ∙ s)) (sym (p .passes .ensures) ∙ c .before .if3 .left)) (c .refuse2 .ensures)
+    (λ s. p .if2 .left (p .before .seed-of .ensures ∙ s)) (fails _ _ (screened v) (not-passes (v .compare .result) (λ e. rw e at (c .before .match .keys2))))) (c .refuse2 .ensures)
 
 returns-4 : tie.Need-returns-4
 returns-4 c =
@@ -79,7 +96,10 @@ check-word-spec =
     seed-of-requires
     (λ c κs. search needs)
     returns
-    passes-requires
+    to-bases-requires
+    measure-of-requires
+    compare-requires
+    (λ c. search needs)
     (λ c. search needs)
     (λ c. search needs)
     (λ c. search needs)

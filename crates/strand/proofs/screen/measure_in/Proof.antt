@@ -5,9 +5,9 @@ use Prim.Native.Nat.{ℕ, _+_, _-_, _*_, _<_, _≤_}
 use native.Mathlib.Omega.{arith}
 use lib.Dec.{lit<}
 use lib.ListN.{length, getD}
-use Rattle.strand.specs.Letters.{wordBases}
-use Rattle.strand.specs.Screen.{longestRun, gcCount}
+use Rattle.strand.specs.Screen.{measureOf}
 use Rattle.strand.specs.Loops.{chunksNumber, Flags, longestRow, MatchesOf}
+use Rattle.strand.proofs.Screening.{measure-is}
 use Rattle.strand.proofs.PackedBases.{word-gc}
 use Rattle.strand.proofs.PackedRuns.{word-run}
 use Rattle.strand.proofs.MatchRows.{more-flags, more-rows, pairs-flags}
@@ -27,10 +27,10 @@ module _ (word : List ℕ) (gc : ℕ) (chunks : List ℕ) (short : length word �
   all-flags = rw enough at (more-flags (4 * length word + 1) (319 - 4 * length word) (chunksNumber chunks) flags)
 
   measured : (longest : ℕ) → ((i : ℕ) → getD word i 0 < 256) → 0 < length word → longest ≡ longestRow 320 (chunksNumber chunks) + 1
-      → (longest ≡ longestRun (wordBases word)) × (gc ≡ gcCount (wordBases word))
+      → record { longest = longest; gc = gc } ≡ measureOf word
   measured longest bytes some e =
       let row = rw enough at (more-rows (4 * length word + 1) (319 - 4 * length word) (chunksNumber chunks) flags) in
-      (e ∙ rw (row, put .flags) (omega (arith, word-run word bytes some)), put .counts ∙ word-gc 1 word bytes)
+      measure-is word (e ∙ rw (row, put .flags) (omega (arith, word-run word bytes some))) (put .counts ∙ word-gc 1 word bytes)
 
 put-matches-requires : tie.Need-put-matches-requires
 put-matches-requires c κs = let p = c .before .before .before .pre in (p .1, p .2, lit< tt, lit< tt)
