@@ -205,7 +205,10 @@ fn run(job: &Job) -> Vec<Line> {
     assert!(a == b && out_a == out_b, "the strands differ");
     lines.push(Line {
         phase: "write",
-        what: format!("{} strands of {} seeds", a[1], a[2]),
+        what: format!(
+            "{} strands of {} seeds, {} dropped for a run, {} for GC alone",
+            a[1], a[2], a[4], a[5]
+        ),
         proved,
         rust,
     });

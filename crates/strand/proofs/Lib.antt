@@ -11,6 +11,7 @@ pub mod ReadingCases
 pub mod LegalStrands
 pub mod CAnswers
 pub mod SeedWords
+pub mod Tries
 pub mod Runs
 pub mod Lines
 pub mod Turns

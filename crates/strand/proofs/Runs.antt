@@ -1,11 +1,10 @@
 -- A run writes the strands of the passing seeds among those it tried, counts the others under why they were dropped, stops at once when
 -- it is done, and can be continued. Assumes nothing.
 use mathlib.Core.Path.{_≡_, refl, sym, ap, _∙_, subst}
-use mathlib.Core.Bool.{cond}
-use mathlib.Core.List.{List, [], _∷_, _++_, append-assoc, append-nil}
+use mathlib.Core.List.{List, [], _∷_, _++_, append-assoc}
 use mathlib.Core.Logic.{inl, inr, _↔_}
 use Prim.Native.Nat.{ℕ, zero, suc, _+_, _-_, _<_}
-use native.Mathlib.Nat.{zero-add, add-zero, add-assoc}
+use native.Mathlib.Nat.{zero-add}
 use native.Mathlib.Omega.{arith}
 use borrow.Author.Tests.{eq-eqb, ne-eqb, eqb-true, eqb-false}
 use lib.Dec.{eqb}
@@ -18,8 +17,9 @@ use Rattle.strand.specs.declared.limits.Verdict.the-variants.{Passes, Lo
 use Rattle.strand.specs.declared.writer.Stop.{Stop}
 use Rattle.strand.specs.declared.writer.Stop.the-variants.{Done, Spent}
 use Rattle.strand.specs.Screen.{wordVerdict, is}
-use Rattle.strand.specs.Writer.{seedWord, strandLine, Progress, progress, followed, judged, oneTry, RunEnd, runEnd, writeFrom, writerRun}
+use Rattle.strand.specs.Writer.{seedWord, strandLine, Progress, followed, oneTry, RunEnd, runEnd, writeFrom, writerRun}
 use Rattle.strand.specs.WriterRuns.{seedsWith, passingFirst, strandLines, RunFacts, continuing, RunsContinue}
+use Rattle.strand.proofs.Tries.{none, after-none, before-none, followed-assoc, tally, tried-next, tried-once, tried-tally, tried-text}
 
 module _ (c : Card) (ws file : List ℕ) where
   -- ---- the clauses
@@ -38,81 +38,11 @@ module _ (c : Card) (ws file : List ℕ) where
   unfolding writeFrom
   run-try wanted left p n = rw (ne-eqb (p .made) wanted n)
 
-  -- ---- one seed
-
-  -- how many strands had this verdict
-  tally : Verdict → Progress → ℕ
-  tally Passes p = p .made
-  tally LongRun p = p .droppedRun
-  tally GcAlone p = p .droppedGc
-
-  judged-tally : (v w : Verdict) (seed : ℕ) (line : List ℕ) → tally v (judged w seed line) ≡ length (cond (is v w) (seed ∷ []) [])
-  unfolding tally
-  judged-tally Passes Passes seed line = omega arith
-  judged-tally Passes LongRun seed line = omega arith
-  judged-tally Passes GcAlone seed line = omega arith
-  judged-tally LongRun Passes seed line = omega arith
-  judged-tally LongRun LongRun seed line = omega arith
-  judged-tally LongRun GcAlone seed line = omega arith
-  judged-tally GcAlone Passes seed line = omega arith
-  judged-tally GcAlone LongRun seed line = omega arith
-  judged-tally GcAlone GcAlone seed line = omega arith
-
-  record Once (p : Progress) : Type 0 where
-    once : p .tried ≡ 1
-    adds : p .made + (p .droppedRun + p .droppedGc) ≡ 1
-
-  judged-once : (w : Verdict) (seed : ℕ) (line : List ℕ) → Once (judged w seed line)
-  judged-once Passes seed line = record { once = refl; adds = omega arith }
-  judged-once LongRun seed line = record { once = refl; adds = omega arith }
-  judged-once GcAlone seed line = record { once = refl; adds = omega arith }
-
-  judged-next : (w : Verdict) (seed : ℕ) (line : List ℕ) → judged w seed line .next ≡ seedAfter seed
-  judged-next Passes seed line = refl
-  judged-next LongRun seed line = refl
-  judged-next GcAlone seed line = refl
-
-  judged-text : (w : Verdict) (seed : ℕ)
-      → judged w seed (strandLine (seedWord c ws file seed)) .text ≡ strandLines c ws file (cond (is Passes w) (seed ∷ []) [])
-  unfolding strandLines
-  judged-text Passes seed = rw append-nil
-  judged-text LongRun seed = refl
-  judged-text GcAlone seed = refl
-
-  tried-next : (seed : ℕ) → oneTry c ws file seed .next ≡ seedAfter seed
-  unfolding oneTry
-  tried-next seed = judged-next (wordVerdict c (seedWord c ws file seed)) seed _
-
-  tried-once : (seed : ℕ) → Once (oneTry c ws file seed)
-  unfolding oneTry
-  tried-once seed = judged-once (wordVerdict c (seedWord c ws file seed)) seed _
-
-  tried-tally : (v : Verdict) (seed : ℕ) → tally v (oneTry c ws file seed) ≡ length (seedsWith v c ws file (seed ∷ []))
-  unfolding oneTry seedsWith
-  tried-tally v seed = judged-tally v (wordVerdict c (seedWord c ws file seed)) seed _
-
-  tried-text : (seed : ℕ) → oneTry c ws file seed .text ≡ strandLines c ws file (seedsWith Passes c ws file (seed ∷ []))
-  unfolding oneTry seedsWith strandLines
-  tried-text seed = judged-text (wordVerdict c (seedWord c ws file seed)) seed
-
   -- ---- a run after another
-
-  followed-assoc : (p q r : Progress) → followed (followed p q) r ≡ followed p (followed q r)
-  followed-assoc p q r = simp (add-assoc, append-assoc)
 
   stop-cases : {P : Type 0} (stop : Stop) → (stop ≡ Done → P) → (stop ≡ Spent → P) → P
   stop-cases Done d s = d refl
   stop-cases Spent d s = s refl
-
-  -- nothing tried yet
-  abbrev none : ℕ → Progress
-  none start = progress 0 0 start 0 0 []
-
-  after-none : (start : ℕ) (p : Progress) → followed (none start) p ≡ p
-  after-none start p = simp zero-add
-
-  before-none : (p : Progress) → followed p (none (p .next)) ≡ p
-  before-none p = simp (add-zero, append-nil)
 
   -- a run that has come so far already does as one that starts afresh
   shifted : (p : Progress) (wanted left : ℕ) (q : Progress)
@@ -176,7 +106,7 @@ module _ (c : Card) (ws file : List ℕ) where
     counts-both : (v : Verdict) (t n : ℕ) → n ≡ length (seedsWith v c ws file (seedsFrom t (seedAfter start)))
         → tally v first + n ≡ length (seedsWith v c ws file (seedsFrom (suc t) start))
     unfolding seedsFrom
-    counts-both v t n e = rw (with-cons v start (seedsFrom t (seedAfter start)), length-append, tried-tally v start, e)
+    counts-both v t n e = rw (with-cons v start (seedsFrom t (seedAfter start)), length-append, tried-tally c ws file v start, e)
 
     earlier : (tried : ℕ) → ((t : ℕ) → t < tried → length (passingFirst c ws file (seedAfter start) t) < w)
         → (t : ℕ) → t < suc tried → length (passingFirst c ws file start t) < wanted
@@ -187,12 +117,12 @@ module _ (c : Card) (ws file : List ℕ) where
     in-front : (r : RunEnd) → Facts (seedAfter start) w budget r → Facts start wanted (suc budget) (continuing first r)
     unfolding Facts seedsFrom iterate tally
     in-front (runEnd stop p) f =
-        let e : first .tried + p .tried ≡ suc (p .tried) = omega (arith, tried-once start .once) in
+        let e : first .tried + p .tried ≡ suc (p .tried) = omega (arith, tried-once c ws file start .once) in
         let all = with-cons Passes start (seedsFrom (p .tried) (seedAfter start)) in
         record {
-          prints = rw (e, all, lines-append, tried-text start) (ap (_++_ (strandLines c ws file (seedsWith Passes c ws file (start ∷ [])))) (f .prints));
+          prints = rw (e, all, lines-append, tried-text c ws file start) (ap (_++_ (strandLines c ws file (seedsWith Passes c ws file (start ∷ [])))) (f .prints));
           counts = rw e (counts-both Passes (p .tried) (p .made) (f .counts));
-          adds-up = omega (arith, tried-once start, f .adds-up);
+          adds-up = omega (arith, tried-once c ws file start, f .adds-up);
           counts-runs = rw e (counts-both LongRun (p .tried) (p .droppedRun) (f .counts-runs));
           counts-gc = rw e (counts-both GcAlone (p .tried) (p .droppedGc) (f .counts-gc));
           steps = rw e (f .steps);
@@ -208,7 +138,7 @@ module _ (c : Card) (ws file : List ℕ) where
     first-tried =
         run-try wanted budget (none start) (λ q. omega arith) ∙ ap (writeFrom c ws file wanted budget) (after-none start first)
         ∙ rw (sum, before-none first) at (shifted first w budget (none (first .next)))
-        ∙ ap (λ s. continuing first (writeFrom c ws file w budget (none s))) (tried-next start)
+        ∙ ap (λ s. continuing first (writeFrom c ws file w budget (none s))) (tried-next c ws file start)
 
   -- ---- a run continued
 
@@ -234,7 +164,7 @@ module _ (c : Card) (ws file : List ℕ) where
       λ more b spent.
       let first = oneTry c ws file start in
       let whole = followed first p in
-      let tries : whole .tried + b ≡ suc (p .tried + b) = omega (arith, tried-once start .once) in
+      let tries : whole .tried + b ≡ suc (p .tried + b) = omega (arith, tried-once c ws file start .once) in
       let sum : first .made + (p .made + more) ≡ whole .made + more = omega arith in
       let not-none : 0 < whole .made + more = stop-cases stop (λ q. omega (arith, f .done .0 q)) (λ q. omega (arith, spent q)) in
       rw (tries, first-tried start (p .made + more) (whole .made + more) (p .tried + b) sum not-none, h more b spent)
@@ -268,7 +198,7 @@ module _ (c : Card) (ws file : List ℕ) where
             let h = eqb-false 0 wanted e in
             let some : 0 < wanted = omega arith in
             let w = wanted - oneTry c ws file start .made in
-            let sum : oneTry c ws file start .made + w ≡ wanted = omega (arith, tried-once start .adds) in
+            let sum : oneTry c ws file start .made + w ≡ wanted = omega (arith, tried-once c ws file start .adds) in
             let rest = writerRun c ws file (seedAfter start) w budget in
             let known = ran budget (seedAfter start) w in
             let facts = in-front start w wanted budget sum some rest (known .0) in

@@ -68,9 +68,9 @@ returns-2 c =
     let p = v .before .before .before in
     let z = p .before .before in
     let a = z .before .before .before .before .args in
-    accepted (a .card) (a .word .now) (c .pad .result) (p .before .seed-of .result)
+    accepted (a .card) (a .word .now) (c .pad .result) _
     (case-droplet (a .card) (a .word .now) (sums (a .card) (a .word .now) _ _ _ (z .before .all-zero .ensures) (z .before .before .syndromes-of .ensures) (z .if1 .taken))
-    (λ s. p .if2 .left (p .before .seed-of .ensures ∙ s)) (passes _ _ (screened v) (told .enum-told .given .1))) (p .before .seed-of .ensures) (c .pad .ensures)
+    (λ s. p .if2 .left (p .before .seed-of .ensures ∙ s)) (passes _ _ (screened v) (told .enum-told .given .1))) (omega (arith, p .before .seed-of .ensures)) (c .pad .ensures)
 
 returns-3 : tie.Need-returns-3
 returns-3 c =
