@@ -81,7 +81,7 @@ loop-again c =
           (⊎-elim
           (λ w. renamed seed (w .2) (omega arith) (w .3) (w .4) (w .5) (dropped-run (l .inv .0) more (less e) turn long (fits e) (w .1 .given .1)))
           (λ w.
-          let gcs : c .before .match .gc-alone ≡ l .gc-alone + 1 = omega (arith, w .4) in
+          let gcs : c .before .match .gc-alone ≡ l .gc-alone + 1 = rw (w .4) in
           renamed seed (w .2) (omega arith) (w .3) gcs (w .5) (dropped-gc (l .inv .0) more (less e) turn long (fits e) (w .1 .given .1))))
           (c .before .match .came),
       omega (arith, l .inv .1, t .try-seed .kept),
