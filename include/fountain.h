@@ -72,8 +72,9 @@ uint32_t fountain_read_card(const uint8_t *card, size_t card_len, uint64_t answe
  *                     seed, with which a later call goes on, and how many strands were dropped for a run and for GC alone
  *
  * A strand is dropped for a run if it has one longer than m, whatever its C and G are, and for GC alone if its runs are within m
- * and C and G are outside lo and hi, so that tried is made plus both. For example, 10 strands of the file 1B 27 4E E4 from seed
- * 0x12345678 on (F 4, L 1, R 2, two weights of 1, budget 1,000):
+ * and it has fewer C and G than lo or more than hi allows, so that tried is made plus both. For example, 10 strands of the file
+ * 1B 27 4E E4 from seed 0x12345678 on (F 4, L 1, R 2, two weights of 1, budget 1,000); the answer of the first line is
+ * {0, 10, 62, 0xD862C7F9, 23, 29}:
  *
  *      m   lo   hi    made  tried  dropped for a run  for GC alone
  *      3  450  550      10     62                 23            29

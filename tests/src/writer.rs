@@ -479,11 +479,11 @@ mod tests {
         assert_eq!(write_q(&TIGHT, START, 10, 62).stop, Stop::Done);
     }
 
-    /// One job under four sets of limits and budgets. With m = 4 fewer are
-    /// dropped for a run, and more of them for GC alone; with wider limits for C
+    /// One job under three sets of limits, and with a smaller budget. With m = 4
+    /// fewer are dropped for a run, and more for GC alone; with wider limits for C
     /// and G fewer are dropped for GC alone, and the run is sooner done.
     #[test]
-    fn one_job_under_four_limits() {
+    fn one_job_under_three_limits() {
         let run_4 = Handed { m: 4, ..TIGHT };
         let wide = Handed {
             lo: 400,

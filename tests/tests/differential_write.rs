@@ -473,7 +473,7 @@ fn print_at_joint(random: &mut Random, numbers: &Numbers, file: &mut [u8]) -> u3
     seed
 }
 
-/// Sets the screen so that the seed's strand just passes it, just misses it, or is outside of more than one limit.
+/// Sets the screen so that the seed's strand just passes it, just misses it, or misses GC, with its run over m or just m.
 fn fit_screen(random: &mut Random, numbers: &mut Numbers, file: &[u8], seed: u32) {
     let strand = strand_letters(&numbers.handed(), file, seed);
     match random.below(9) {

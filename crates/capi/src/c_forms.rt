@@ -79,8 +79,8 @@ pub extern "C" fn fountain_write(
                 run.made as u64,
                 run.tried as u64,
                 run.next as u64,
-                run.dropped.run as u64,
-                run.dropped.gc as u64,
+                run.dropped_run as u64,
+                run.dropped_gc as u64,
             ];
             0
         }

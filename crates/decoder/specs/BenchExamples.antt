@@ -2,7 +2,7 @@
 -- one list under one proposition, over the definitions that the contracts cite. Assumes nothing.
 use mathlib.Core.Path.{_≡_, refl}
 use mathlib.Core.List.{List, [], _∷_}
-use Prim.Native.Nat.{ℕ, zero, suc, _*_}
+use Prim.Native.Nat.{ℕ, zero, suc, _+_, _*_}
 use lib.ListN.{replicate}
 use Rattle.field.specs.declared.generator.Draw.{Draw}
 use Rattle.field.specs.Bytes.{All, fromBigEndian, toBigEndian, xorLists, padded}
@@ -10,7 +10,7 @@ use Rattle.field.specs.Shift.{shiftUp}
 use Rattle.field.specs.Generator.{ofSeed, afterDraw, numberDrawn, xorshift, seedAfter}
 use Rattle.field.specs.CheckBytes.{double, timesPower, horner, syndromes, byRoot, multiple, remainderAfter, parity}
 use Rattle.droplet.specs.declared.card.Card.{Card}
-use Rattle.droplet.specs.PoolCard.{numberAt, wellFormed, cardNumbers, cardWeights, weightCount, weightAt, firstWeights, segmentCount, strandBytes}
+use Rattle.droplet.specs.PoolCard.{numberAt, wellFormed, cardNumbers, cardWeights, weightCount, weightAt, firstWeights, segmentCount, strandBytes, strandBases}
 use Rattle.droplet.specs.Questions.{sizesRight, limitsRight, weightsRight, cardRefusal, cardReadingRefusal, CardRead, cardReading}
 use Rattle.droplet.specs.Droplet.{degreeFrom, degree, member, pickFrom, degreeOf, segmentsOf, segment, payload}
 use Rattle.strand.specs.declared.writer.Stop.the-variants.{Done, Spent}
@@ -88,7 +88,7 @@ Holds (reads m lo letters reading) = readCheck (cardP m lo) (weights 2 1) letter
 Holds (steps s t) = seedAfter s ≡ t
 Holds (answers ws n) = cardRefusal (cardP 15 214) ws ≡ n
 Holds (restores offered end) = restoreAfter offered (replicate 20 7) 0 ≡ end
-Holds (writes c start wanted budget answer) = writerAnswer c (weights 2 1) fileQ start wanted budget (wanted * 29) 2 ≡ answer
+Holds (writes c start wanted budget answer) = writerAnswer c (weights 2 1) fileQ start wanted budget (wanted * (strandBases c + 1)) 2 ≡ answer
 
 -- the strands of seeds 1, 2 and 3
 abbrev pub letters1 : List ℕ

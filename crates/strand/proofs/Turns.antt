@@ -1,4 +1,4 @@
--- One turn of the writer's loop: what is left of the budget takes the lines so far to the whole run, and the buffer past them is
+-- One turn of the writer's loop: what is left of the budget takes the numbers and lines so far to the whole run, and the buffer past them is
 -- as it was lent. Assumes nothing.
 use mathlib.Core.Path.{_≡_, refl, sym, ap, _∙_}
 use mathlib.Core.Bool.{false}
@@ -58,7 +58,7 @@ module _ {c : Card} {ws file : List ℕ} {start wanted budget : ℕ} {out₀ lis
   module _ {out list : List ℕ} {seed made tried runs gcs at : ℕ}
       (now : Stands c ws file start wanted budget out₀ list₀ out list seed made tried runs gcs at) where
     abbrev run : Stop → Run
-    run stop = record { stop = stop; made = made; tried = tried; next = seed; dropped = record { run = runs; gc = gcs } }
+    run stop = record { stop = stop; made = made; tried = tried; next = seed; «dropped_run» = runs; «dropped_gc» = gcs }
 
     -- the two ways in which it stops
     ended : (stop : Stop) → writerRun c ws file start wanted budget ≡ runEnd stop (progress made tried seed runs gcs (take at out))

@@ -1,4 +1,5 @@
--- The writer's promise, for each way in which it answers: refused by a question, or after a run. Assumes nothing.
+-- The writer's promise, for each way in which it answers: refused by a question, or after a run; and what an answer tells of its run.
+-- Assumes nothing.
 use mathlib.Core.Path.{_≡_, refl, sym, ap, _∙_}
 use mathlib.Core.Bool.{true, _&&_}
 use mathlib.Core.List.{List, _++_}
@@ -16,8 +17,8 @@ use Rattle.droplet.proofs.Conjunctions.{and-true}
 use Rattle.droplet.proofs.LegalCard.{no-number}
 use Rattle.strand.specs.declared.writer.Run.{Run}
 use Rattle.strand.specs.declared.writer.WriteAnswer.the-variants as answer
-use Rattle.strand.specs.Writer.{RunEnd, runEnd, writerRun, ownRefusal, writerRefusal, refusal, writeAnswer, runAnswer, runText, WriterPromise}
-use Rattle.strand.specs.WriterRuns.{answeredProgress, AnswersRun}
+use Rattle.strand.specs.Writer.{RunEnd, runEnd, writerRun, ownRefusal, writerRefusal, refusal, writeAnswer, answeredProgress, runAnswer, runText, WriterPromise}
+use Rattle.strand.specs.WriterRuns.{AnswersRun}
 use Rattle.strand.specs.Loops.{Ran}
 use Rattle.strand.proofs.Runs.{run-facts}
 use Rattle.strand.proofs.Lines.{text-length}
@@ -111,8 +112,8 @@ module _ (c : Card) (ws file : List ℕ) (start wanted budget : ℕ) (run : Run)
       let m : run .made ≡ p .made = cc in
       let t : run .tried ≡ p .tried = cc in
       let n : run .next ≡ p .next = cc in
-      let r : run .dropped .run ≡ p .droppedRun = cc in
-      let g : run .dropped .gc ≡ p .droppedGc = cc in
+      let r : run .«dropped_run» ≡ p .droppedRun = cc in
+      let g : run .«dropped_gc» ≡ p .droppedGc = cc in
       rw (s, m, t, n, r, g) e
 
 pub answers-run : AnswersRun

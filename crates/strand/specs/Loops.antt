@@ -17,8 +17,7 @@ use Rattle.strand.specs.Letters.{Letter, Bits, Other, letterBits, allLet
 use Rattle.strand.specs.declared.limits.Verdict.{Verdict}
 use Rattle.strand.specs.declared.writer.Run.{Run}
 use Rattle.strand.specs.Screen.{gcCount, wordVerdict, screenPasses}
-use Rattle.strand.specs.Writer.{seedWord, strandLine, runEnd, writerRun}
-use Rattle.strand.specs.WriterRuns.{answeredProgress}
+use Rattle.strand.specs.Writer.{seedWord, strandLine, runEnd, writerRun, answeredProgress}
 
 -- the letter that a number stands for: two bits, and 32 or more for none
 unfoldable pub letterIn : ℕ → Letter

@@ -12,6 +12,7 @@ use Rattle.droplet.specs.Questions.{cardRefusal}
 use Rattle.droplet.specs.Droplet.{segmentsOf, payload}
 use Rattle.strand.specs.declared.limits.Verdict.{Verdict}
 use Rattle.strand.specs.declared.limits.Verdict.the-variants.{Passes, LongRun, GcAlone}
+use Rattle.strand.specs.declared.writer.Run.{Run}
 use Rattle.strand.specs.declared.writer.Stop.{Stop}
 use Rattle.strand.specs.declared.writer.Stop.the-variants.{Done, Spent}
 use Rattle.strand.specs.declared.writer.WriteAnswer.{WriteAnswer}
@@ -92,8 +93,12 @@ pub data Written : Type 0 where
   refusal : ℕ → Written
 
 abbrev pub writeAnswer : WriteAnswer → Written
-writeAnswer (answer.Written run) = written (run .stop) (run .made) (run .tried) (run .next) (run .dropped .run) (run .dropped .gc)
+writeAnswer (answer.Written run) = written (run .stop) (run .made) (run .tried) (run .next) (run .«dropped_run») (run .«dropped_gc»)
 writeAnswer (answer.Refused n) = refusal n
+
+-- an answer's numbers, with a text
+abbrev pub answeredProgress : Run → List ℕ → Progress
+answeredProgress run text = progress (run .made) (run .tried) (run .next) (run .«dropped_run») (run .«dropped_gc») text
 
 abbrev pub runAnswer : RunEnd → Written
 runAnswer (runEnd stop p) = written stop (p .made) (p .tried) (p .next) (p .droppedRun) (p .droppedGc)

@@ -15,7 +15,7 @@ use Rattle.strand.specs.declared.writer.Stop.{Stop}
 use Rattle.strand.specs.declared.writer.Stop.the-variants.{Done, Spent}
 use Rattle.strand.specs.declared.writer.WriteAnswer.the-variants as answer
 use Rattle.strand.specs.Screen.{wordVerdict, is}
-use Rattle.strand.specs.Writer.{seedWord, strandLine, Progress, progress, followed, RunEnd, runEnd, writerRun, writerRefusal, WriterPromise}
+use Rattle.strand.specs.Writer.{seedWord, strandLine, Progress, followed, RunEnd, runEnd, writerRun, writerRefusal, answeredProgress, WriterPromise}
 
 -- the seeds of a list whose strands have this verdict, in their order
 unfoldable pub seedsWith : Verdict → Card → List ℕ → List ℕ → List ℕ → List ℕ
@@ -68,12 +68,8 @@ RunsContinue = (c : Card) (weights file : List ℕ) (start wanted budget : ℕ) 
     → writerRun c weights file start wanted budget ≡ runEnd stop p → (more b : ℕ) → (stop ≡ Spent → 0 < more)
     → writerRun c weights file start (p .made + more) (p .tried + b) ≡ continuing p (writerRun c weights file (p .next) more b)
 
--- an answer's numbers, with a text
-abbrev pub answeredProgress : Run → List ℕ → Progress
-answeredProgress run text = progress (run .made) (run .tried) (run .next) (run .dropped .run) (run .dropped .gc) text
-
--- the run that an answer tells of: no question refused it, and all this holds of the answer's numbers and of the text in front of the
--- buffer
+-- the run that an answer tells of: no question refused it, and `RunFacts` holds of the answer's numbers and of the text in front of
+-- the buffer
 pub record AnsweredRun (c : Card) (weights file : List ℕ) (start wanted budget : ℕ) (out list : List ℕ) (run : Run) (out′ : List ℕ) : Type 0 where
   pub unrefused : writerRefusal c weights (length file) start wanted (length out) (length list) ≡ 0
   pub text : List ℕ

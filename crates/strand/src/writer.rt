@@ -26,19 +26,15 @@ pub enum Stop {
     Spent,
 }
 
-// How many strands were dropped for a run, and how many for their GC alone.
-pub struct Dropped {
-    pub run: u32,
-    pub gc: u32,
-}
-
-// How a writer run ended. `next` is the seed after the last one tried.
+// How a writer run ended. `next` is the seed after the last one tried, and of the strands that were not made some were dropped for a
+// run, the others for GC alone.
 pub struct Run {
     pub stop: Stop,
     pub made: u32,
     pub tried: u32,
     pub next: u32,
-    pub dropped: Dropped,
+    pub dropped_run: u32,
+    pub dropped_gc: u32,
 }
 
 pub enum WriteAnswer {
@@ -128,15 +124,16 @@ fn try_seed(
     write_passing(card, &word[..n], out, at)
 }
 
-fn ended(stop: Stop, made: u32, tried: u32, next: u32, run: u32, gc: u32) -> Run
-    ensures { λ r. ⌜ r ≡ record { stop = stop; made = made; tried = tried; next = next; dropped = record { run = run; gc = gc } } ⌝ }
+fn ended(stop: Stop, made: u32, tried: u32, next: u32, dropped_run: u32, dropped_gc: u32) -> Run
+    ensures { λ r. ⌜ r ≡ record { stop = stop; made = made; tried = tried; next = next; «dropped_run» = «dropped_run»; «dropped_gc» = «dropped_gc» } ⌝ }
 {
     Run {
         stop,
         made,
         tried,
         next,
-        dropped: Dropped { run, gc },
+        dropped_run,
+        dropped_gc,
     }
 }
 
@@ -160,25 +157,25 @@ fn run_seeds(
     let mut seed = start;
     let mut made = 0;
     let mut tried = 0;
-    let mut long_run = 0;
-    let mut gc_alone = 0;
+    let mut dropped_run = 0;
+    let mut dropped_gc = 0;
     let mut at = 0;
     while made != wanted {
         if tried == budget {
-            return ended(Stop::Spent, made, tried, seed, long_run, gc_alone);
+            return ended(Stop::Spent, made, tried, seed, dropped_run, dropped_gc);
         }
         match try_seed(card, plan, weights, file, seed, out, at, list, word) {
             Verdict::Passes => {
                 made += 1;
                 at += line;
             }
-            Verdict::LongRun => long_run += 1,
-            Verdict::GcAlone => gc_alone += 1,
+            Verdict::LongRun => dropped_run += 1,
+            Verdict::GcAlone => dropped_gc += 1,
         }
         tried += 1;
         seed = generator::step_seed(seed);
     }
-    ended(Stop::Done, made, tried, seed, long_run, gc_alone)
+    ended(Stop::Done, made, tried, seed, dropped_run, dropped_gc)
 }
 
 // The first of the questions 5 to 8 that says no, or 0. D is `degrees`; the others are the lengths of the file, the buffer and

@@ -56,7 +56,7 @@ try-seed-requires c κs =
 
 -- no count is more than the seeds tried, and one more seed than these fits
 counted : (c : tie.After-slice-known6 Inv-loop μ-loop)
-    → (let l = c .before .before .before .before .before .before .before .before .before .before .before .before .loop in l .made + (l .long-run + l .gc-alone) + 1 < 2 ^ 32)
+    → (let l = c .before .before .before .before .before .before .before .before .before .before .before .before .loop in l .made + (l .dropped-run + l .dropped-gc) + 1 < 2 ^ 32)
 counted c =
     let e = c .before .before .before .before .before .before .before .before .before .before in
     omega (arith, less e, e .before .before .loop .inv .0 .adds-up, e .before .before .before .before .before .before .before .before .before .good)
@@ -81,7 +81,7 @@ loop-again c =
           (⊎-elim
           (λ w. renamed seed (w .2) (omega arith) (w .3) (w .4) (w .5) (dropped-run (l .inv .0) more (less e) turn long (fits e) (w .1 .given .1)))
           (λ w.
-          let gcs : c .before .match .gc-alone ≡ l .gc-alone + 1 = rw (w .4) in
+          let gcs : c .before .match .dropped-gc ≡ l .dropped-gc + 1 = omega (arith, w .4) in
           renamed seed (w .2) (omega arith) (w .3) gcs (w .5) (dropped-gc (l .inv .0) more (less e) turn long (fits e) (w .1 .given .1))))
           (c .before .match .came),
       omega (arith, l .inv .1, t .try-seed .kept),

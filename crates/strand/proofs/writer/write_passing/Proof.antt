@@ -1,4 +1,4 @@
--- `write_passing` meets its contract: it writes just where the screen passes. Assumes nothing.
+-- `write_passing` meets its contract: it writes just where the screen passes, and answers the verdict. Assumes nothing.
 use mathlib.Core.Path.{_≡_}
 use Rattle.strand.specs.Screen.{wordVerdict}
 use Rattle.strand.proofs.Screening.{comparable, compared, not-passes, passes, fails}
