@@ -1,6 +1,6 @@
-/* Runs document 01's bench example through all five functions and compares every number and every byte with the values that
- * stand there or follow from its rules: reads card P, writes strands of file Q, checks and stores the reads of seeds 2, 1, 3,
- * and restores. On the way it has calls refused, and runs document 02's example of runs over the joints (Item 1) and the
+/* Runs document 01's bench example through all six functions and compares every number and every byte with the values that
+ * stand there or follow from its rules: reads card P and cuts it again, writes strands of file Q, checks and stores the reads of
+ * seeds 2, 1, 3, and restores. On the way it has calls refused, and runs document 02's example of runs over the joints (Item 1) and the
  * header's example of dropped strands (Item 12). Each lent buffer and answer ends in bytes that must survive, and all of them
  * must survive a refusal. Returns 1 if anything differs.
  *
@@ -83,6 +83,41 @@ static struct pool read_card(const uint8_t *card, size_t card_len)
     struct pool p = {(uint32_t)a[0], (uint8_t)a[1],  (uint8_t)a[2], (uint8_t)a[3],
                      (uint16_t)a[4], (uint16_t)a[5], card + 20,     (size_t)(4 * a[6])};
     return p;
+}
+
+/* Card P cut from its numbers, and the longest card with every number at its most (document 02, Item 2). */
+static void cut_cards(const struct pool *p, const uint8_t *card, size_t card_len)
+{
+    static const uint8_t longest[20] = {1, 0, 6, 0x00, 0x80, 0x00, 0x00, 64, 4, 2, 0, 5, 20, 0x03, 0xE8, 0x03, 0xE8, 3, 0x10, 0x00};
+    static uint8_t weights[4 * 1024], out[20 + sizeof weights + SPARE];
+    struct pool sizes = *p, limits = *p, plan = *p;
+    struct pool most = {8388608, 64, 4, 20, 1000, 1000, weights, sizeof weights};
+    const uint64_t wanted[1] = {card_len}, wanted_most[1] = {20 + sizeof weights};
+    uint64_t a[2];
+    sizes.R = 3;
+    limits.hi = 1001;
+    plan.weights_len = 7;
+    lend(out, sizeof out);
+    lend(a, sizeof a);
+    number("cut: 2", fountain_cut_card(CARD(&sizes), out, 0, a), 2);
+    number("cut: 3", fountain_cut_card(CARD(&limits), out, 0, a), 3);
+    number("cut: 4", fountain_cut_card(CARD(&plan), out, 0, a), 4);
+    number("cut: 19", fountain_cut_card(CARD(p), out, card_len - 1, a), 19);
+    number("cut: 19, no buffer", fountain_cut_card(CARD(p), NULL, 0, a), 19);
+    kept("the buffer of a refused card", out, sizeof out);
+    kept("the answer of a refused cutter", a, sizeof a);
+    number("cut", fountain_cut_card(CARD(p), out, card_len, a), 0);
+    answers("the cutter's answer", a, wanted, 1);
+    bytes("card P", out, card, card_len);
+    kept("the buffer past card P", out + card_len, sizeof out - card_len);
+    for (size_t i = 0; i < sizeof weights; i++)
+        weights[i] = i % 4 < 2 ? 0 : (uint8_t)(i / 4 + i % 4);
+    lend(out, sizeof out);
+    number("cut the longest", fountain_cut_card(CARD(&most), out, sizeof out, a), 0);
+    answers("the answer of the longest", a, wanted_most, 1);
+    bytes("the longest card before its weights", out, longest, sizeof longest);
+    bytes("the weights of the longest card", out + 20, weights, sizeof weights);
+    kept("the buffer past the longest card", out + 20 + sizeof weights, SPARE);
 }
 
 static void write_refused(const struct pool *p)
@@ -326,6 +361,7 @@ int main(int argc, char **argv)
     fclose(in);
     number("the card's length", card_len, 28);
     struct pool p = read_card(card, card_len);
+    cut_cards(&p, card, card_len);
     write_refused(&p);
     write_one(&p, 2, READS[0]);
     write_one(&p, 1, READS[1]);

@@ -1,6 +1,6 @@
-/* Card reader, writer, read check, store (the hall's shelf) and restorer of a DNA-storage pool, for C and C++ hosts.
+/* Card reader, card cutter, writer, read check, store (the hall's shelf) and restorer of a DNA-storage pool, for C and C++ hosts.
  *
- * Link libcapi.a and libstrand.a: fountain_check_read is in libstrand.a, the other four are in libcapi.a. The two have
+ * Link libcapi.a and libstrand.a: fountain_check_read is in libstrand.a, the other five are in libcapi.a. The two have
  * no name in common, and together need nothing but memcpy and memset.
  *
  * Each function returns 0, or the number of the first of its questions that says no. They are asked in the order in which each
@@ -58,6 +58,23 @@ extern "C" {
  *    1  not three whole fields of tags 1, 2 and 3 and lengths 6, 5 and a multiple of 4, or something after them
  *    2, 3, 4  as above */
 uint32_t fountain_read_card(const uint8_t *card, size_t card_len, uint64_t answer[7]);
+
+/* Cuts a pool card: writes its bytes from its numbers and weights.
+ *
+ *   F .. weights_len  as above
+ *   out, out_len      lent for the card, at least 20 + weights_len bytes (no card has more than 4,116)
+ *   answer            lent for one number: the card's length in bytes, 20 + weights_len
+ *
+ * Returns 0 and fills answer. The card is then at the start of out, and the bytes of out past it are as they were.
+ * fountain_read_card, handed the card, accepts it and gives these numbers; and a card that it accepts, cut again from its
+ * numbers and weights, is the same bytes. Otherwise:
+ *
+ *    2, 3, 4  as above
+ *   19  out is shorter than the card */
+uint32_t fountain_cut_card(uint32_t F, uint8_t L, uint8_t R, uint8_t m, uint16_t lo, uint16_t hi,
+                           const uint8_t *weights, size_t weights_len,
+                           uint8_t *out, size_t out_len,
+                           uint64_t answer[1]);
 
 /* Writes strands of a file.
  *

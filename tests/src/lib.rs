@@ -2,18 +2,21 @@
 //!
 //! A second implementation of documents 01 and 02, written for comparison in
 //! tests; of document 02 it has the items that have landed. Clarity comes before
-//! speed. Each module is named after a section of document 01, and each function
-//! quotes the sentence it renders, of document 01 where no other is named.
+//! speed. Each module is named after a section of document 01 or an item of
+//! document 02, and each function quotes the sentence it renders, of document 01
+//! where no other is named.
 //!
-//! Every public call (card reading, read check, its C form, writing, shelving,
-//! restoring) takes slices and answers a struct or enum, or a `Refusal` holding
-//! the number of the first question answered "no". A refusal changes no buffer.
+//! Every public call (card reading, card cutting, read check, its C form,
+//! writing, shelving, restoring) takes slices and answers a struct, an enum or a
+//! number, or a `Refusal` holding the number of the first question answered
+//! "no". A refusal changes no buffer.
 //!
 //! The other functions are building blocks. Those that need an accepted card
 //! (questions 2 to 4 all "yes") say so.
 
 #![forbid(unsafe_code)]
 
+pub mod card_cutter;
 pub mod check_bytes_letters_screen;
 pub mod droplet;
 pub mod generator_and_seed_schedule;
@@ -25,6 +28,7 @@ pub mod shelf;
 pub mod vectors;
 pub mod writer;
 
+pub use card_cutter::cut_card;
 pub use check_bytes_letters_screen::{read_check, read_check_c_form, Droplet};
 pub use generator_and_seed_schedule::{schedule_step, DrawState};
 pub use listing::listing;

@@ -1,4 +1,4 @@
-//! Section "Questions in their order".
+//! Section "Questions in their order", and the questions that document 02 adds.
 //!
 //! Each question is one function that says yes (true) or no (false) and quotes
 //! its line. The calls ask them in the order shown there.
@@ -141,6 +141,11 @@ pub fn question_17(seeds_on_the_shelf: &[u32]) -> bool {
 /// "File at least K·L, marks at least K? 18."
 pub fn question_18(file_length: usize, marks_length: usize, k: usize, l: u8) -> bool {
     file_length >= k * usize::from(l) && marks_length >= k
+}
+
+/// Document 02, Item 2: "a buffer too short for the card is then refused as 19"
+pub fn question_19(buffer_length: usize, card_length: usize) -> bool {
+    buffer_length >= card_length
 }
 
 #[cfg(test)]

@@ -1,5 +1,5 @@
 //! Every bench example of document 01, over the public calls alone, in its
-//! order; then the examples of document 02, Item 1.
+//! order; then the examples of document 02, Item 1, and card P cut as in Item 2.
 
 use second::check_bytes_letters_screen::{
     check_bytes, check_sums, count_gc, letters_of_bytes, longest_run, strand_bytes,
@@ -301,4 +301,18 @@ fn starts_of_strands_at_m_3() {
     let gcc = "GCCACTTATGTAGGTTAGCTCGTGTGAG";
     assert_eq!(answer_at_m_3(0x947C_ECAF, gcc), Ok(()));
     assert_eq!(longest_run(gcc.as_bytes()), 2);
+}
+
+/// Document 02, Item 2: "each accepted card, read and cut, gives its own bytes.
+/// Bytes past the card keep what they had." and "The answer is the card's length
+/// in bytes."
+#[test]
+fn card_p_is_cut() {
+    let card = card_p();
+    let p = handed(&card);
+    let mut buffer = [0x3F; 30];
+    assert_eq!(cut_card(&p, &mut buffer), Ok(28));
+    assert_eq!(buffer[..28], card);
+    assert_eq!(buffer[28..], [0x3F; 2]);
+    assert_eq!(cut_card(&p, &mut [0; 27]), Err(Refusal(19)));
 }

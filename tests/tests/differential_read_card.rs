@@ -26,6 +26,8 @@ fn any_card(random: &mut Random) -> Vec<u8> {
         1 => resize(random, &mut second),
         2 => resize(random, &mut third),
         3 if random.once_in(20) => third = random.bytes(65_532),
+        // The two bytes of its length then say 65,536 less.
+        4 if random.once_in(20) => third.resize(65_536 + third.len(), 0),
         _ => (),
     }
     let mut card = cards::card_of(&first, &second, &third);
@@ -85,7 +87,7 @@ fn break_structure(random: &mut Random, card: &mut Vec<u8>) {
 const REGIONS: &[&str] = &[
     "answer 1", "1: empty", "1: a byte short", "1: a byte over", "1: tag 1", "1: tag 2", "1: tag 3",
     "1: first length 5", "1: first length 7", "1: second length 4", "1: second length 6", "1: length of weights no multiple of 4",
-    "1: a field ends early", "card NULL", "more than 1,024 weights",
+    "1: weights longer than two bytes can say", "1: a field ends early", "card NULL", "more than 1,024 weights",
 ];
 
 /// Notes how the fields break question 1, as far as it can be seen at their usual places.
@@ -127,6 +129,10 @@ fn note_fields(regions: &mut Regions, card: &[u8]) {
         "1: a byte short",
     );
     regions.note_if(whole && card.len() == 21 + weights_length, "1: a byte over");
+    regions.note_if(
+        whole && card.len() == 20 + 65_536 + weights_length,
+        "1: weights longer than two bytes can say",
+    );
 }
 
 /// The numbers of a card of which question 1 is answered yes.

@@ -1,4 +1,4 @@
--- The C forms of the card reader, the writer, storing and restoring: for each the number returned and the lent answer, by the
+-- The C forms of the card reader, the card cutter, the writer, storing and restoring: for each the number returned and the lent answer, by the
 -- cases of what the call itself answers, and with it the buffers. A refusal leaves the answer as it was. Assumes nothing.
 use mathlib.Core.Path.{_≡_}
 use mathlib.Core.Bool.{false}
@@ -9,6 +9,7 @@ use lib.ListN.{length, drop}
 use Rattle.droplet.specs.declared.card.Card.{Card}
 use Rattle.droplet.specs.PoolCard.{weightCount}
 use Rattle.droplet.specs.Questions.{CardRead}
+use Rattle.droplet.specs.CardCutter.{Cut, cutReply, cutBuffer, cutCard}
 use Rattle.strand.specs.declared.writer.Stop.{Stop}
 use Rattle.strand.specs.declared.writer.Stop.the-variants.{Done, Spent}
 use Rattle.strand.specs.Writer.{Written, writerAnswer, WriterLeaves}
@@ -23,6 +24,16 @@ pub data Returned : Type 0 where
 unfoldable pub cardReturned : List ℕ → CardRead → Returned
 cardReturned answer (CardRead.accepted c d) = returned 0 (c .f ∷ (c .l ∷ (c .r ∷ (c .m ∷ (c .lo ∷ (c .hi ∷ (d ∷ [])))))))
 cardReturned answer (CardRead.refused n) = returned n answer
+
+-- the card cutter: the card's length
+unfoldable pub cutReturned : List ℕ → Cut → Returned
+cutReturned answer (Cut.cut size) = returned 0 (size ∷ [])
+cutReturned answer (Cut.refused n) = returned n answer
+
+-- the card cutter's C form: number and answer, and the buffer at exit
+pub record CutForm (c : Card) (weights buffer answer : List ℕ) (n : ℕ) (buffer′ answer′ : List ℕ) : Type 0 where
+  pub returns : returned n answer′ ≡ cutReturned answer (cutReply (cutCard c weights buffer))
+  pub leaves : buffer′ ≡ cutBuffer (cutCard c weights buffer)
 
 -- how the writer stopped: 0 as done, 1 as spent
 abbrev pub stopNumber : Stop → ℕ

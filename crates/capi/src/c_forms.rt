@@ -1,6 +1,6 @@
 ghost use mathlib.Core.Path.{_≡_};
 ghost use Rattle.droplet.specs.Questions.{cardReading};
-ghost use Rattle.capi.specs.CForms.{cardReturned, stopNumber, WriteForm, StoreForm, RestoreForm};
+ghost use Rattle.capi.specs.CForms.{cardReturned, stopNumber, CutForm, WriteForm, StoreForm, RestoreForm};
 ghost use Rattle.capi.specs.CForms.Returned.{returned};
 use decoder::restorer;
 use decoder::restorer::RestoreAnswer;
@@ -9,6 +9,8 @@ use decoder::store::StoreAnswer;
 use droplet::card;
 use droplet::card::Card;
 use droplet::card::CardAnswer;
+use droplet::card_cutter;
+use droplet::card_cutter::CutAnswer;
 use strand::writer;
 use strand::writer::Stop;
 use strand::writer::WriteAnswer;
@@ -33,6 +35,31 @@ pub extern "C" fn fountain_read_card(card: &[u8], answer: &mut [u64; 7]) -> u32
                 c.hi as u64,
                 d as u64,
             ];
+            0
+        }
+    }
+}
+
+// The card cutter: the card's length.
+#[no_mangle]
+pub extern "C" fn fountain_cut_card(
+    f: u32,
+    l: u8,
+    r: u8,
+    m: u8,
+    lo: u16,
+    hi: u16,
+    weights: &[u8],
+    out: &mut [u8],
+    answer: &mut [u64; 1],
+) -> u32
+    ensures { λ n. ⌜ CutForm (record { f = f; l = l; r = r; m = m; lo = lo; hi = hi }) (now (weights .entry)) (now (out .entry)) (now (answer .entry))
+        n (now (out .exit)) (now (answer .exit)) ⌝ }
+{
+    match card_cutter::cut_card(Card { f, l, r, m, lo, hi }, weights, out) {
+        CutAnswer::Refused(n) => n as u32,
+        CutAnswer::Cut(size) => {
+            *answer = [size as u64];
             0
         }
     }

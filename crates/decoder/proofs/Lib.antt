@@ -14,7 +14,6 @@ pub mod MissingWhen
 pub mod PayloadParts
 pub mod PresentRight
 pub mod FileBytes
-pub mod SameBytes
 pub mod WholeFile
 pub mod Untouched
 pub mod MarkBytes

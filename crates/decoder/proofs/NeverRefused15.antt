@@ -12,6 +12,7 @@ use lib.ListN.{length, take}
 use lib.Seq.{take-nil}
 use Rattle.field.specs.Bytes.{All}
 use Rattle.field.proofs.Tests.{either}
+use Rattle.field.proofs.SameBytes.{eq-same}
 use Rattle.droplet.specs.declared.card.Card.{Card}
 use Rattle.droplet.specs.PoolCard.{strandBases}
 use Rattle.droplet.specs.Questions.{cardRefusal}
@@ -23,7 +24,6 @@ use Rattle.decoder.specs.Store.{Record, recordBytes, recordsText, record
 use Rattle.decoder.specs.Demand3.{Holds, Call, readsOf, nextCount, Chained}
 use Rattle.decoder.specs.Vault.{payloadFor, Job}
 use Rattle.decoder.proofs.AllOf.{all-front}
-use Rattle.decoder.proofs.SameBytes.{eq-same}
 use Rattle.decoder.proofs.RecordBytes.{IsRecord}
 use Rattle.decoder.proofs.LegalRead.{InReading, read-recordable}
 use Rattle.decoder.proofs.StoreCall.{room, grown, held-records, held-fits}

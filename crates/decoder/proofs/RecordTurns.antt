@@ -7,7 +7,7 @@ use native.Mathlib.Nat.{mul-le-mul-right, le-refl}
 use native.Mathlib.Omega.{arith}
 use lib.ListN.{length, take, drop}
 use lib.Seq.{drop-drop}
-use Rattle.field.specs.Bytes.{All, padded}
+use Rattle.field.specs.Bytes.{All, padded, sameBytes}
 use Rattle.field.proofs.ByteLists.{take-padded, padded-length}
 use Rattle.droplet.specs.declared.card.Plan.{Plan}
 use Rattle.droplet.specs.PoolCard.{weightCount}
@@ -17,7 +17,7 @@ use Rattle.droplet.proofs.Sets.{segments-length, segments-below}
 use Rattle.droplet.proofs.Payload.{payload-length}
 use Rattle.decoder.specs.declared.restorer.Unmarked.the-variants.{None, One, Several}
 use Rattle.decoder.specs.declared.restorer.Drawn.{Drawn}
-use Rattle.decoder.specs.Store.{recordBytes, recordSeed, recordPayload, recordFrom, sameBytes}
+use Rattle.decoder.specs.Store.{recordBytes, recordSeed, recordPayload, recordFrom}
 use Rattle.decoder.specs.Restorer.{Droplet, State, marked, missing, filled, filledBy, step, present, isNil, contradicts}
 use Rattle.decoder.specs.Loops.{dropletOf, unmarkedOf, AllBelow, Seen, Room, Filled}
 use Rattle.decoder.proofs.AllOf.{all-map}

@@ -8,8 +8,9 @@ use native.Mathlib.Nat.{div-add-mod', div-lt-iff-lt-mul, mod-lt}
 use native.Mathlib.Omega.{arith}
 use lib.ListN.{length, getD, take}
 use lib.Seq.{length-take-le, getD-take, ext-getD}
-use Rattle.field.specs.Bytes.{All}
+use Rattle.field.specs.Bytes.{All, sameBytes}
 use Rattle.field.proofs.Tests.{either}
+use Rattle.field.proofs.SameBytes.{eq-same}
 use Rattle.droplet.specs.declared.card.Card.{Card}
 use Rattle.droplet.specs.PoolCard.{segmentCount}
 use Rattle.droplet.specs.Questions.{cardRefusal}
@@ -17,12 +18,10 @@ use Rattle.droplet.specs.Droplet.{segment, payload}
 use Rattle.droplet.proofs.LegalCard.{legal}
 use Rattle.droplet.proofs.Payload.{segment-at}
 use Rattle.decoder.specs.declared.restorer.Sheet.{Sheet}
-use Rattle.decoder.specs.Store.{sameBytes}
 use Rattle.decoder.specs.Restorer.{Droplet, State, marked, missing, isNil, contradicts, contradictions}
 use Rattle.decoder.specs.Demand3.{GivesAll}
 use Rattle.decoder.specs.Vault.{AllAmong, LentStore, dropletsOn, SheetFrom, RightSheet, NoBetter, SameMarks}
 use Rattle.decoder.proofs.MarkCounts.{present-all}
-use Rattle.decoder.proofs.SameBytes.{eq-same}
 use Rattle.decoder.proofs.PoolShapes.{IsDroplet, stateAfter}
 use Rattle.decoder.proofs.FillKeeps.{peelAll-sized}
 use Rattle.decoder.proofs.PayloadParts.{payload-same}

@@ -11,10 +11,10 @@ use borrow.Author.Tests.{leb-true, leb-false, le-leb}
 use lib.Dec.{leb}
 use lib.ListN.{length, take, drop, length-append, length-take, length-drop}
 use lib.Seq.{take-all, take-append-le}
-use Rattle.field.specs.Bytes.{All}
+use Rattle.field.specs.Bytes.{All, sameBytes}
 use Rattle.field.proofs.Tests.{either}
 use Rattle.strand.specs.ReadCheck.{Reading, droplet, refused}
-use Rattle.decoder.specs.Store.{Record, recordBytes, Found, found, absent, findSeed, records, recordsText, sameBytes, Stored, accepted, repeat, refusal, Kept, keptAnswer, keptBuffer, appended, compared, storeReading, countFits}
+use Rattle.decoder.specs.Store.{Record, recordBytes, Found, found, absent, findSeed, records, recordsText, Stored, accepted, repeat, refusal, Kept, keptAnswer, keptBuffer, appended, compared, storeReading, countFits}
 use Rattle.decoder.specs.Restorer.{hasSeed}
 use Rattle.decoder.specs.Demand3.{Holds}
 use Rattle.decoder.proofs.AllOf.{all-front}

@@ -8,16 +8,15 @@ use native.Mathlib.Nat.{mul-le-mul-right}
 use native.Mathlib.Omega.{arith}
 use lib.ListN.{take}
 use lib.Seq.{length-take-le}
-use Rattle.field.specs.Bytes.{All, AllBytes}
+use Rattle.field.specs.Bytes.{All, AllBytes, sameBytes}
 use Rattle.field.proofs.Tests.{either}
+use Rattle.field.proofs.SameBytes.{same-eq, eq-same}
 use Rattle.droplet.specs.Droplet.{segment, payload}
-use Rattle.decoder.specs.Store.{sameBytes}
 use Rattle.decoder.specs.Restorer.{Droplet, State, marked, present, contradicts, contradictions}
 use Rattle.decoder.specs.Demand3.{IsFile, GivesAll}
 use Rattle.decoder.proofs.AllOf.{all-map}
 use Rattle.decoder.proofs.MarkCounts.{present-all}
 use Rattle.decoder.proofs.MissingSegments.{missing-none}
-use Rattle.decoder.proofs.SameBytes.{same-eq, eq-same}
 use Rattle.decoder.proofs.PlacedSegment.{segment-front}
 use Rattle.decoder.proofs.PoolShapes.{IsDroplet, Peelable, stateAfter}
 use Rattle.decoder.proofs.FillKeeps.{peelAll-sized}

@@ -5,14 +5,14 @@ use mathlib.Core.List.{List, [], _∷_, _++_, map}
 use Prim.Native.Nat.{ℕ, zero, suc, _+_, _*_}
 use lib.Dec.{eqb, leb}
 use lib.ListN.{length, getD, take, drop, set, replicate}
-use Rattle.field.specs.Bytes.{xorLists}
+use Rattle.field.specs.Bytes.{xorLists, sameBytes}
 use Rattle.droplet.specs.declared.card.Card.{Card}
 use Rattle.droplet.specs.PoolCard.{segmentCount, weightCount}
 use Rattle.droplet.specs.Questions.{cardRefusal}
 use Rattle.droplet.specs.Droplet.{segmentsOf, payload}
 use Rattle.decoder.specs.declared.restorer.RestoreAnswer.{RestoreAnswer}
 use Rattle.decoder.specs.declared.restorer.RestoreAnswer.the-variants as answer
-use Rattle.decoder.specs.Store.{Record, records, sameBytes, countFits}
+use Rattle.decoder.specs.Store.{Record, records, countFits}
 
 -- "The droplets on a shelf are its records, each with the set that its seed picks"
 pub record Droplet : Type 0 where

@@ -1,12 +1,12 @@
 -- Document 01, "Shelf", here a store: a buffer and a count of records from its start, and the store call with its questions 14 to 16.
 -- Assumes nothing.
 use mathlib.Core.Path.{_≡_}
-use mathlib.Core.Bool.{Bool, true, false, cond, _&&_}
+use mathlib.Core.Bool.{Bool, cond}
 use mathlib.Core.List.{List, [], _∷_, _++_}
 use Prim.Native.Nat.{ℕ, zero, suc, _+_, _*_}
 use lib.Dec.{eqb, leb}
 use lib.ListN.{length, take, drop}
-use Rattle.field.specs.Bytes.{fromBigEndian, toBigEndian}
+use Rattle.field.specs.Bytes.{fromBigEndian, toBigEndian, sameBytes}
 use Rattle.droplet.specs.declared.card.Card.{Card}
 use Rattle.droplet.specs.Questions.{cardRefusal}
 use Rattle.strand.specs.ReadCheck.{Reading, droplet, refused, readCheck}
@@ -43,12 +43,6 @@ recordsText (r ∷ rs) = recordText r ++ recordsText rs
 unfoldable pub records : ℕ → ℕ → List ℕ → List Record
 records L zero buffer = []
 records L (suc n) buffer = recordFrom L buffer ∷ records L n (drop (recordBytes L) buffer)
-
-unfoldable pub sameBytes : List ℕ → List ℕ → Bool
-sameBytes [] [] = true
-sameBytes [] (y ∷ ys) = false
-sameBytes (x ∷ xs) [] = false
-sameBytes (x ∷ xs) (y ∷ ys) = eqb x y && sameBytes xs ys
 
 -- the payload of "the first record of its seed", if there is one
 pub data Found : Type 0 where

@@ -12,7 +12,6 @@ ghost use Rattle.decoder.specs.Loops.{dropletOf, dropletsOf, lookedAt, A
 use crate::records::payload_in;
 use crate::records::record_at;
 use crate::store::count_fits;
-use crate::store::starts_with;
 use droplet::card::Card;
 use droplet::card::Plan;
 use droplet::card::PlanAnswer;
@@ -23,8 +22,9 @@ use droplet::droplet::mark;
 use droplet::droplet::payload_of;
 use droplet::droplet::xor_into;
 use droplet::droplet::xor_segment;
+use field::bytes::copy;
+use field::bytes::starts_with;
 use field::generator::Draw;
-use strand::droplet_bytes::copy;
 use strand::droplet_bytes::seed_of;
 
 // What a restore found: segments present, passes over the records, and records that contradict the segments.

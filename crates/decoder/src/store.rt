@@ -1,9 +1,9 @@
 ghost use mathlib.Core.Path.{_≡_};
 ghost use Prim.Native.Nat.{_≤_};
-ghost use lib.ListN.{length, take};
+ghost use lib.ListN.{length};
 ghost use Rattle.strand.specs.ReadCheck.{droplet, lettersReading};
 ghost use Rattle.strand.specs.Loops.{InRange};
-ghost use Rattle.decoder.specs.Store.{sameBytes, countFits, appended, storeReading, StorePromise};
+ghost use Rattle.decoder.specs.Store.{countFits, appended, storeReading, StorePromise};
 ghost use Rattle.decoder.specs.StoreLoops.{Within, Sought, Keeps, refusalNumber};
 use crate::records::payload_in;
 use crate::records::put_record;
@@ -11,6 +11,7 @@ use crate::records::record_bytes;
 use droplet::card;
 use droplet::card::Card;
 use droplet::card::PlanAnswer;
+use field::bytes::starts_with;
 use strand::droplet_bytes::seed_of;
 use strand::read_check;
 use strand::read_check::ReadOutcome;
@@ -26,21 +27,6 @@ pub enum StoreAnswer {
 enum Place {
     At(usize),
     Nowhere,
-}
-
-// Whether `bytes` starts with `front`.
-pub fn starts_with(bytes: &[u8], front: &[u8]) -> bool
-    requires { ⌜ length (now front) ≤ length (now bytes) ⌝ }
-    ensures { λ r. ⌜ r ≡ sameBytes (take (length (now (front .entry))) (now (bytes .entry))) (now (front .entry)) ⌝ }
-{
-    let mut i = 0;
-    while i < front.len() {
-        if bytes[i] != front[i] {
-            return false;
-        }
-        i += 1;
-    }
-    true
 }
 
 // Question 14. The product could pass the largest number, the quotient cannot.

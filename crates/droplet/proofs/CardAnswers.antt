@@ -2,13 +2,11 @@
 use mathlib.Core.Path.{_≡_, refl, sym, ap, _∙_}
 use mathlib.Core.Bool.{Bool, true, false, cond}
 use mathlib.Core.List.{List}
-use mathlib.Core.Logic.{inl, inr}
 use Prim.Native.Nat.{ℕ, _≤_}
 use native.Mathlib.Omega.{arith}
-use lib.Dec.{eqb, leb}
+use lib.Dec.{eqb}
 use lib.ListN.{length}
-use borrow.Author.Tests.{eqb-true, eqb-false, leb-true}
-use Rattle.field.proofs.Tests.{either}
+use borrow.Author.Tests.{eqb-true, eqb-false}
 use Rattle.droplet.specs.declared.card.Card.{Card}
 use Rattle.droplet.specs.declared.card.Plan.{Plan}
 use Rattle.droplet.specs.declared.card.PlanAnswer.{PlanAnswer}
@@ -20,6 +18,7 @@ use Rattle.droplet.specs.Questions.{CardRead, cardRefusal, planAnswer, p
 use Rattle.droplet.specs.Questions.Planned.{planned, refused}
 use Rattle.droplet.specs.Questions.CardRead.{accepted}
 use Rattle.droplet.proofs.Conjunctions.{said-yes}
+use Rattle.droplet.proofs.CardBytes.{well-formed-long}
 use Rattle.droplet.proofs.LegalCard.{Legal, legal}
 
 -- question n is the first that says no
@@ -92,14 +91,6 @@ pub record Accepted (bytes : List ℕ) (card : Card) (d : ℕ) : Type 0 where
   pub degrees : d ≡ weightCount (cardWeights bytes)
 
 module _ (bytes : List ℕ) where
-  pub well-formed-long : wellFormed bytes ≡ true → weightsStart ≤ length bytes
-  unfolding wellFormed
-  well-formed-long one =
-      elim (either (leb weightsStart (length bytes))) [
-        | inl e ↦ leb-true weightsStart (length bytes) e
-        | inr e ↦ let z : false ≡ true = rw e at one in absurd (apart (cc))
-      ]
-
   pub reading-accepted : (card : Card) (d : ℕ) → cardReading bytes ≡ accepted card d → Accepted bytes card d
   unfolding cardReading cardReadingRefusal
   reading-accepted card d e =
@@ -107,7 +98,7 @@ module _ (bytes : List ℕ) where
       let numbers : card ≡ cardNumbers bytes = cc (told .1) in
       let one = said-yes (wellFormed bytes) 0 (cardRefusal (cardNumbers bytes) (cardWeights bytes)) (told .0) in
       record {
-        long = well-formed-long (one .0);
+        long = well-formed-long bytes (one .0);
         reader-unrefused = told .0;
         unrefused = rw numbers (one .1);
         numbers = numbers;

@@ -1,7 +1,10 @@
 pub mod NumberAt
 pub mod Conjunctions
+pub mod CardBytes
+pub mod CardFields
 pub mod LegalCard
 pub mod CardAnswers
+pub mod CardRoundTrip
 pub mod Degree
 pub mod Sets
 pub mod Picking

@@ -1,11 +1,11 @@
 -- Document 01, "Pool card": the card's fields, the numbers that it holds, and the lengths that follow from them.
 -- Assumes nothing.
 use mathlib.Core.Bool.{Bool, _&&_}
-use mathlib.Core.List.{List}
+use mathlib.Core.List.{List, [], _∷_, _++_}
 use Prim.Native.Nat.{ℕ, zero, suc, _+_, _-_, _*_, _/_, _%_}
-use lib.Dec.{eqb, leb}
+use lib.Dec.{eqb}
 use lib.ListN.{length, take, drop}
-use Rattle.field.specs.Bytes.{fromBigEndian}
+use Rattle.field.specs.Bytes.{fromBigEndian, toBigEndian, sameBytes}
 use Rattle.droplet.specs.declared.card.Card.{Card}
 use Rattle.droplet.specs.declared.card.Bases.{Bases}
 use Rattle.droplet.specs.declared.card.Bytes.{Bytes}
@@ -14,21 +14,25 @@ use Rattle.droplet.specs.declared.card.Bytes.{Bytes}
 unfoldable pub numberAt : ℕ → ℕ → List ℕ → ℕ
 numberAt at n bytes = fromBigEndian (take n (drop at bytes))
 
--- "a one-byte tag, a two-byte length, then the content": a field of this tag and length starts at a place
-abbrev pub fieldAt : ℕ → ℕ → ℕ → List ℕ → Bool
-fieldAt at tag size card = eqb (numberAt at 1 card) tag && eqb (numberAt (at + 1) 2 card) size
+-- the two bytes that spell a number; of one that needs more than two, the first is no byte
+unfoldable pub twoBytes : ℕ → List ℕ
+twoBytes n = n / 256 ∷ n % 256 ∷ []
+
+-- "a one-byte tag, a two-byte length, then the content"
+unfoldable pub fieldBytes : ℕ → List ℕ → List ℕ
+fieldBytes tag content = tag ∷ (twoBytes (length content) ++ content)
+
+-- the bytes of a card, "three fields, in this order": tag 1 with F, L and R, tag 2 with m, lo and hi, tag 3 with the weights
+unfoldable pub cardBytes : Card → List ℕ → List ℕ
+cardBytes c weights =
+    fieldBytes 1 (toBigEndian (c .f) ++ (c .l ∷ c .r ∷ []))
+    ++ (fieldBytes 2 (c .m ∷ (twoBytes (c .lo) ++ twoBytes (c .hi))) ++ fieldBytes 3 weights)
 
 -- where the weights stand, "its first byte being byte 0"
 abbrev pub weightsStart : ℕ
 weightsStart = 20
 
--- three fields in this order, tags 1, 2, 3, lengths 6, 5 and a multiple of 4, and nothing after them
-unfoldable pub wellFormed : List ℕ → Bool
-wellFormed card =
-    leb weightsStart (length card) && fieldAt 0 1 6 card && fieldAt 9 2 5 card && fieldAt 17 3 (length card - weightsStart) card
-    && eqb ((length card - weightsStart) % 4) 0
-
--- the numbers of a card, and the bytes of its weights
+-- the numbers at their places in a card, and the bytes of its weights
 unfoldable pub cardNumbers : List ℕ → Card
 cardNumbers card = record {
   f = numberAt 3 4 card;
@@ -41,6 +45,10 @@ cardNumbers card = record {
 
 abbrev pub cardWeights : List ℕ → List ℕ
 cardWeights card = drop weightsStart card
+
+-- "tags 1, 2, 3 whole, lengths 6, 5 and a multiple of 4, nothing after": the bytes of a card of its own numbers and weights
+unfoldable pub wellFormed : List ℕ → Bool
+wellFormed card = sameBytes card (cardBytes (cardNumbers card) (cardWeights card)) && eqb (length (cardWeights card) % 4) 0
 
 -- "the degree plan, D weights of four bytes": D, and the weight of degree i + 1
 abbrev pub weightCount : List ℕ → ℕ

@@ -1,11 +1,12 @@
 ghost use mathlib.Core.Path.{_≡_};
 ghost use mathlib.Core.Bool.{cond, _||_};
-ghost use Prim.Native.Nat.{_+_, _*_, _≤_};
+ghost use Prim.Native.Nat.{_+_, _*_, _≤_, _<_};
 ghost use lib.Dec.{eqb};
-ghost use lib.ListN.{length};
-ghost use Rattle.droplet.specs.PoolCard.{numberAt, fieldAt, wellFormed, cardNumbers, weightSum, segmentCount, strandBytes, basesOf, bytesOf};
+ghost use lib.ListN.{length, take};
+ghost use Rattle.droplet.specs.PoolCard.{numberAt, twoBytes, cardBytes, weightsStart, cardNumbers, wellFormed, weightSum, segmentCount, strandBytes, basesOf, bytesOf};
 ghost use Rattle.droplet.specs.Questions.{within, sizesRight, limitsRight, weightsRight, planAnswer, planOf, cardAnswer, cardReading};
 use crate::weights;
+use field::bytes;
 
 // The numbers of a pool card: F, L, R, m, lo and hi.
 pub struct Card {
@@ -163,41 +164,76 @@ fn two_bytes(bytes: &[u8], at: usize) -> u16
     join_two(bytes[at], bytes[at + 1])
 }
 
-// Whether a field of this tag and length starts at a place.
-fn field_at(bytes: &[u8], at: usize, tag: u8, size: usize) -> bool
-    requires { ⌜ at + 3 ≤ length (now bytes) ⌝ }
-    ensures { λ r. ⌜ r ≡ fieldAt at tag size (now (bytes .entry)) ⌝ }
-{
-    bytes[at] == tag && (two_bytes(bytes, at + 1) as usize) == size
-}
-
-// Question 1. The third field's length is what is left of the card, so that nothing stands after it.
-fn well_formed(bytes: &[u8]) -> bool
-    ensures { λ r. ⌜ r ≡ wellFormed (now (bytes .entry)) ⌝ }
-{
-    if bytes.len() < 20 {
-        return false;
-    }
-    let size = bytes.len() - 20;
-    field_at(bytes, 0, 1, 6)
-        && field_at(bytes, 9, 2, 5)
-        && field_at(bytes, 17, 3, size)
-        && size % 4 == 0
-}
-
 // The contents of the first two fields, past their tags and lengths.
 fn card_numbers(bytes: &[u8]) -> Card
     requires { ⌜ 20 ≤ length (now bytes) ⌝ }
     ensures { λ r. ⌜ r ≡ cardNumbers (now (bytes .entry)) ⌝ }
 {
     Card {
-        f: field::bytes::join(bytes[3], bytes[4], bytes[5], bytes[6]),
+        f: bytes::join(bytes[3], bytes[4], bytes[5], bytes[6]),
         l: bytes[7],
         r: bytes[8],
         m: bytes[12],
         lo: two_bytes(bytes, 13),
         hi: two_bytes(bytes, 15),
     }
+}
+
+// The two bytes of a number.
+fn split_two(n: u16) -> [u8; 2]
+    ensures { λ r. ⌜ r ≡ twoBytes n ⌝ }
+{
+    [(n / 256) as u8, (n % 256) as u8]
+}
+
+// A card's bytes before its weights: two fields, and tag and length of the third. The card cutter writes them, the card reader
+// compares with them.
+pub fn card_head(card: Card, weights: &[u8]) -> [u8; 20]
+    requires { ⌜ length (now weights) < 65536 ⌝ }
+    ensures { λ r. ⌜ r ≡ take weightsStart (cardBytes card (now (weights .entry))) ⌝ }
+{
+    let f = bytes::split(card.f);
+    let lo = split_two(card.lo);
+    let hi = split_two(card.hi);
+    let size = split_two(weights.len() as u16);
+    [
+        1,
+        0,
+        6,
+        f[0],
+        f[1],
+        f[2],
+        f[3],
+        card.l,
+        card.r,
+        2,
+        0,
+        5,
+        card.m,
+        lo[0],
+        lo[1],
+        hi[0],
+        hi[1],
+        3,
+        size[0],
+        size[1],
+    ]
+}
+
+// Question 1. A card is well-formed if it starts as the card of its own numbers and weights does: the length of the third field is
+// then what is left, so that nothing stands after it.
+fn well_formed(card: &[u8]) -> bool
+    ensures { λ r. ⌜ r ≡ wellFormed (now (card .entry)) ⌝ }
+{
+    if card.len() < 20 {
+        return false;
+    }
+    let size = card.len() - 20;
+    if 65535 < size {
+        return false;
+    }
+    let head = card_head(card_numbers(card), &card[20..]);
+    bytes::starts_with(card, &head) && size % 4 == 0
 }
 
 // The card reader. The weights stand from byte 20 on.

@@ -2,6 +2,7 @@ pub mod Tests
 pub mod Fold
 pub mod Xor
 pub mod ByteLists
+pub mod SameBytes
 pub mod BigEndian
 pub mod Words
 pub mod Schedule

@@ -1,7 +1,9 @@
 -- Bytes and lists of bytes, which every section of document 01 rests on. Assumes nothing.
+use mathlib.Core.Bool.{Bool, true, false, _&&_}
 use mathlib.Core.List.{List, [], _∷_, _++_, foldl}
 use Prim.Native.Nat.{ℕ, _+_, _-_, _*_, _/_, _%_, _^_, _<_}
 use lib.Bits.{bitXor}
+use lib.Dec.{eqb}
 use lib.ListN.{length, replicate}
 
 -- P holds of each element of a list
@@ -32,3 +34,10 @@ xorLists (x ∷ xs) (y ∷ ys) = bitXor x y ∷ xorLists xs ys
 -- a list as n bytes, those past its end being 0
 unfoldable pub padded : ℕ → List ℕ → List ℕ
 padded n l = l ++ replicate (n - length l) 0
+
+-- whether two lists are equal
+unfoldable pub sameBytes : List ℕ → List ℕ → Bool
+sameBytes [] [] = true
+sameBytes [] (y ∷ ys) = false
+sameBytes (x ∷ xs) [] = false
+sameBytes (x ∷ xs) (y ∷ ys) = eqb x y && sameBytes xs ys

@@ -4,7 +4,7 @@ use mathlib.Core.Path.{_≡_, refl}
 use mathlib.Core.List.{List, [], _∷_, _++_}
 use Prim.Native.Nat.{ℕ}
 use lib.ListN.{replicate}
-use Rattle.field.specs.Bytes.{All, fromBigEndian, toBigEndian}
+use Rattle.field.specs.Bytes.{All, fromBigEndian, toBigEndian, sameBytes}
 use Rattle.field.specs.Shift.{shiftUp}
 use Rattle.field.specs.CheckBytes.{double, timesPower, horner, syndromes}
 use Rattle.droplet.specs.PoolCard.{numberAt, weightAt, firstWeights, segmentCount, strandBytes}
@@ -13,7 +13,7 @@ use Rattle.strand.specs.Letters.{letterBits, textLetters, lettersBases, allLett
 use Rattle.strand.specs.Sites.{siteBefore, siteAfter}
 use Rattle.strand.specs.Screen.{orderOf, withBase, longestOf, longestRun, gcCount, measureOf, verdict, wordVerdict, screenPasses}
 use Rattle.strand.specs.ReadCheck.{sumsZero, wordReading, lettersReading, readCheck}
-use Rattle.decoder.specs.Store.{recordBytes, recordText, recordPayload, recordFrom, records, sameBytes, findSeed, appended, compared, storeReading, storeRead}
+use Rattle.decoder.specs.Store.{recordBytes, recordText, recordPayload, recordFrom, records, findSeed, appended, compared, storeReading, storeRead}
 use Rattle.decoder.specs.BenchExamples.{cardP, weights, letters1, letters2, letters3}
 use Rattle.listing.specs.Listing.{Listed, lastLine, linesFrom, linesOf, afterAnswer, afterLine, listing}
 

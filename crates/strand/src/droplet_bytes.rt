@@ -6,18 +6,6 @@ ghost use Rattle.field.specs.Bytes.{toBigEndian};
 ghost use Rattle.strand.specs.ReadCheck.{wordSeed};
 use field::bytes;
 
-// Copies bytes to the start of a buffer.
-pub fn copy(from: &[u8], to: &mut [u8])
-    requires { ⌜ length (now from) ≤ length (now to) ⌝ }
-    ensures { λ _. ⌜ now (to .exit) ≡ now (from .entry) ++ drop (length (now (from .entry))) (now (to .entry)) ⌝ }
-{
-    let mut i = 0;
-    while i < from.len() {
-        to[i] = from[i];
-        i += 1;
-    }
-}
-
 // The seed with which a droplet's bytes start: those of a strand's word, and of a record.
 pub fn seed_of(word: &[u8]) -> u32
     requires { ⌜ 4 ≤ length (now word) ⌝ }
@@ -31,7 +19,5 @@ pub fn put_droplet(seed: u32, payload: &[u8], out: &mut [u8])
     requires { ⌜ 4 + length (now payload) ≤ length (now out) ⌝ }
     ensures { λ _. ⌜ now (out .exit) ≡ toBigEndian seed ++ (now (payload .entry) ++ drop (4 + length (now (payload .entry))) (now (out .entry))) ⌝ }
 {
-    let four = bytes::split(seed);
-    copy(&four, &mut *out);
-    copy(payload, &mut out[4..]);
+    bytes::copy_both(&bytes::split(seed), payload, out);
 }

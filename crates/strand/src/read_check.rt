@@ -15,6 +15,7 @@ use droplet::card::Bases;
 use droplet::card::Bytes;
 use droplet::card::Card;
 use droplet::card::PlanAnswer;
+use field::bytes;
 use field::check_bytes;
 
 // What the read check finds in a read: a droplet's seed, or the number of the question that refused it.
@@ -59,7 +60,7 @@ fn pad(payload: &[u8]) -> [u8; 64]
     ensures { λ r. ⌜ r ≡ padded 64 (now (payload .entry)) ⌝ }
 {
     let mut out = [0u8; 64];
-    droplet_bytes::copy(payload, &mut out);
+    bytes::copy(payload, &mut out);
     out
 }
 

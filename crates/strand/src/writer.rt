@@ -17,6 +17,7 @@ use droplet::card::Card;
 use droplet::card::Plan;
 use droplet::card::PlanAnswer;
 use droplet::droplet as droplets;
+use field::bytes;
 use field::check_bytes;
 use field::generator;
 
@@ -51,7 +52,7 @@ fn fill_word(card: Card, seed: u32, payload: &[u8], word: &mut [u8])
     let message = 4 + payload.len();
     droplet_bytes::put_droplet(seed, payload, word);
     let parity = check_bytes::parity_of(card.r, &word[..message]);
-    droplet_bytes::copy(&parity, &mut word[message..]);
+    bytes::copy(&parity, &mut word[message..]);
 }
 
 // The word of the strand that a seed gives for the file, in the first bytes of `word`.

@@ -7,9 +7,10 @@ use native.Mathlib.Omega.{arith}
 use borrow.Author.Needs.{needs}
 use lib.ListN.{length, drop, length-drop}
 use lib.Seq.{take-all}
+use Rattle.field.specs.Bytes.{sameBytes}
 use Rattle.strand.specs.ReadCheck.{droplet}
 use Rattle.decoder.specs.declared.store.Place.the-variants.{At}
-use Rattle.decoder.specs.Store.{recordPayload, Found, found, absent, findSeed, records, sameBytes, kept, repeat, refusal, appended, compared, storeReading}
+use Rattle.decoder.specs.Store.{recordPayload, Found, found, absent, findSeed, records, kept, repeat, refusal, appended, compared, storeReading}
 use Rattle.decoder.specs.StoreLoops.{Sought}
 use Rattle.decoder.proofs.BufferParts.{rest-whole}
 use Rattle.decoder.proofs.RecordBytes.{payload-size}

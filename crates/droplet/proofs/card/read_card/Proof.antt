@@ -2,17 +2,15 @@
 use mathlib.Core.Path.{_≡_, sym, _∙_}
 use mathlib.Core.Bool.{true, false}
 use mathlib.Core.List.{List}
-use Prim.Native.Nat.{ℕ, _-_}
-use native.Mathlib.Omega.{arith}
-use lib.ListN.{length, take, drop, length-drop}
-use lib.Seq.{take-all}
+use Prim.Native.Nat.{ℕ}
 use borrow.Author.Needs.{needs}
 use borrow.Author.Tests.{eq-eqb, ne-eqb}
 use Rattle.droplet.specs.declared.card.Card.{Card}
-use Rattle.droplet.specs.PoolCard.{weightsStart, wellFormed, cardNumbers, cardWeights}
+use Rattle.droplet.specs.PoolCard.{wellFormed, cardNumbers}
 use Rattle.droplet.specs.Questions.{cardRefusal, cardReadingRefusal, cardReading}
 use Rattle.droplet.specs.Questions.CardRead.{accepted, refused}
-use Rattle.droplet.proofs.CardAnswers.{SaysNo, Passed, passed, stopped, well-formed-long}
+use Rattle.droplet.proofs.CardBytes.{lentWeights, lent-weights, well-formed-long}
+use Rattle.droplet.proofs.CardAnswers.{SaysNo, Passed, passed, stopped}
 use Rattle.droplet.proofs.card.read_card.Statement.{statement}
 use Rattle.droplet.proofs.card.read_card.Tie as tie
 
@@ -21,23 +19,16 @@ module _ (bytes : List ℕ) where
   unfolding cardReading cardReadingRefusal
   reading-1 one = rw one
 
-  -- the weights as they are lent to `check_plan`
-  abbrev lent : List ℕ
-  lent = take (length bytes - weightsStart) (drop weightsStart bytes)
-
-  whole : lent ≡ cardWeights bytes
-  whole = take-all (length bytes - weightsStart) (drop weightsStart bytes) (simp length-drop (omega arith))
-
   module _ (card : Card) (one : wellFormed bytes ≡ true) (numbers : card ≡ cardNumbers bytes) where
-    refusal : cardReadingRefusal bytes ≡ cardRefusal card lent
+    refusal : cardReadingRefusal bytes ≡ cardRefusal card (lentWeights bytes)
     unfolding cardReadingRefusal
-    refusal = rw (one, numbers, whole)
+    refusal = rw (one, numbers, lent-weights bytes)
 
-    reading-passed : (k d s : ℕ) → Passed card lent k d s → accepted card d ≡ cardReading bytes
+    reading-passed : (k d s : ℕ) → Passed card (lentWeights bytes) k d s → accepted card d ≡ cardReading bytes
     unfolding cardReading
-    reading-passed k d s p = rw (eq-eqb (cardReadingRefusal bytes) 0 (refusal ∙ p .unrefused)) (cc whole)
+    reading-passed k d s p = rw (eq-eqb (cardReadingRefusal bytes) 0 (refusal ∙ p .unrefused)) (cc (lent-weights bytes))
 
-    reading-stopped : (n : ℕ) → SaysNo (cardRefusal card lent) n → refused n ≡ cardReading bytes
+    reading-stopped : (n : ℕ) → SaysNo (cardRefusal card (lentWeights bytes)) n → refused n ≡ cardReading bytes
     unfolding cardReading
     reading-stopped n h = rw (refusal ∙ h .number, ne-eqb n 0 (h .not-zero))
 

@@ -1,50 +1,71 @@
--- `well_formed` meets its contract: its tests are the definition's, in the same order. Assumes nothing.
-use mathlib.Core.Path.{_≡_, refl, _∙_}
-use mathlib.Core.Bool.{Bool, _&&_}
+-- `well_formed` meets its contract: a card shorter than its head, or longer than a length of two bytes can say, is none, and of any
+-- other the first twenty bytes decide. Assumes nothing.
+use mathlib.Core.Path.{_≡_, refl, sym, ap, _∙_}
+use mathlib.Core.Bool.{true, false}
 use mathlib.Core.List.{List}
-use mathlib.Core.Logic.{⊎-elim}
-use Prim.Native.Nat.{ℕ, _-_}
-use lib.Dec.{leb}
-use lib.ListN.{length}
+use mathlib.Core.Logic.{inl, inr}
+use Prim.Native.Nat.{ℕ, _-_, _≤_, _<_}
+use native.Mathlib.Omega.{arith}
+use lib.ListN.{length, getD, take, length-drop}
 use borrow.Author.Needs.{needs}
-use borrow.Author.Tests.{le-leb, lt-leb}
-use Rattle.droplet.specs.PoolCard.{fieldAt, weightsStart, wellFormed}
+use Rattle.field.specs.Bytes.{sameBytes}
+use Rattle.field.proofs.Tests.{either}
+use Rattle.droplet.specs.PoolCard.{weightsStart, cardBytes, cardNumbers, cardWeights, wellFormed}
 use Rattle.droplet.proofs.Conjunctions.{and-then, and-else}
+use Rattle.droplet.proofs.CardBytes.{headBytes, head-length, third-length, own-bytes, well-formed-long, lent-weights, front-decides}
 use Rattle.droplet.proofs.card.well_formed.Statement.{statement}
 use Rattle.droplet.proofs.card.well_formed.Tie as tie
 
--- the tests before the second field's, and before the third's
-abbrev oneField : List ℕ → Bool
-oneField bytes = leb weightsStart (length bytes) && fieldAt 0 1 6 bytes
+module _ (card : List ℕ) where
+  no : (wellFormed card ≡ true → ⊥) → false ≡ wellFormed card
+  no h = elim (either (wellFormed card)) [ inl e ↦ absurd (h e) | inr e ↦ sym e ]
 
-abbrev twoFields : List ℕ → Bool
-twoFields bytes = oneField bytes && fieldAt 9 2 5 bytes
+  too-short : length card < weightsStart → false ≡ wellFormed card
+  too-short h = no (λ e. let long = well-formed-long card e in let z : ⊥ = omega arith in z)
 
-one-field : (c : tie.After-field-at) → c .field-at .result ≡ oneField (c .before .before .before .args .bytes .now)
-one-field c = rw (le-leb _ _ (c .before .if1 .left)) (c .field-at .ensures)
+  too-long : getD card 18 0 < 256 → 65535 < length card - weightsStart → false ≡ wellFormed card
+  too-long byte h =
+      no (λ e.
+      let first = ap (λ (l : List ℕ). getD l 18 0) (own-bytes card e) ∙ third-length (cardNumbers card) (cardWeights card) in
+      let rest = length-drop weightsStart card in
+      let z : ⊥ = omega arith in
+      z)
 
-two-fields : (c : tie.Joined2) → c .if2 .if3 ≡ twoFields (c .before .before .before .before .args .bytes .now)
-two-fields c =
-    let first = one-field (c .before) in
-    ⊎-elim (λ w. and-then first (w .0 .taken) (w .2 ∙ w .1 .ensures)) (λ w. and-else _ first (w .0 .left) (w .1)) (c .if2 .came)
+  -- the card starts with the head of its own numbers and weights
+  module _ (long : weightsStart ≤ length card) (head : List ℕ) (e : head ≡ headBytes (cardNumbers card) (cardWeights card)) where
+    head-fits : length head ≤ length card
+    head-fits = let n = ap length e ∙ head-length (cardNumbers card) (cardWeights card) in omega (arith, n)
 
-three-fields : (c : tie.Joined3) → let bytes = c .before .before .before .before .before .args .bytes .now in
-    c .if3 .if4 ≡ (twoFields bytes && fieldAt 17 3 (length bytes - weightsStart) bytes)
-three-fields c =
-    let first = two-fields (c .before) in
-    ⊎-elim (λ w. and-then first (w .0 .taken) (w .2 ∙ w .1 .ensures)) (λ w. and-else _ first (w .0 .left) (w .1)) (c .if3 .came)
+    starts : sameBytes (take (length head) card) head ≡ sameBytes card (cardBytes (cardNumbers card) (cardWeights card))
+    starts = rw (e, head-length (cardNumbers card) (cardWeights card)) (sym (front-decides card long (cardNumbers card)))
+
+-- the head that is compared with
+compared : (c : tie.After-card-head) → (let card = c .before .before .before .before .before .before .args .card .now in
+    c .card-head .result ≡ headBytes (cardNumbers card) (cardWeights card))
+compared c = c .card-head .ensures ∙ rw (c .before .before .card-numbers .ensures, lent-weights _)
+
+same : (c : tie.After-starts-with) → (let card = c .before .before .before .before .before .before .before .before .args .card .now in
+    c .starts-with .result ≡ sameBytes card (cardBytes (cardNumbers card) (cardWeights card)))
+same c =
+    let head = c .before .before in
+    c .starts-with .ensures ∙ starts _ (omega (arith, head .before .before .before .before .if1 .left)) _ (compared head)
 
 returns : tie.Need-returns
-unfolding wellFormed
-returns c = rw (lt-leb _ _ (c .if1 .taken))
+returns c = too-short _ (c .if1 .taken)
 
 returns-2 : tie.Need-returns-2
-unfolding wellFormed
-returns-2 c = and-then (three-fields (c .before)) (c .if4 .taken) refl
+returns-2 c = too-long _ (omega (arith, c .before .before .shared-slice-known .given 18)) (c .if2 .taken)
+
+starts-with-requires : tie.Need-starts-with-requires
+starts-with-requires c κs = head-fits _ (omega arith) _ (compared (c .before))
 
 returns-3 : tie.Need-returns-3
 unfolding wellFormed
-returns-3 c = and-else _ (three-fields (c .before)) (c .if4 .left) refl
+returns-3 c = and-then (same (c .before)) (c .if3 .taken) (rw (length-drop weightsStart))
+
+returns-4 : tie.Need-returns-4
+unfolding wellFormed
+returns-4 c = and-else _ (same (c .before)) (c .if3 .left) refl
 
 pub well-formed-spec : {M : Type 1} → statement M
 well-formed-spec =
@@ -52,8 +73,13 @@ well-formed-spec =
     (tie.spec
     returns
     (λ c. search needs)
-    (λ c κs. search needs)
-    (λ c κs. search needs)
-    (λ c κs. search needs)
     returns-2
-    returns-3)
+    (λ c κs. search needs)
+    (λ c. search needs)
+    (λ c. search needs)
+    (λ c. search needs)
+    (λ c κs. search needs)
+    (λ c. search needs)
+    starts-with-requires
+    returns-3
+    returns-4)

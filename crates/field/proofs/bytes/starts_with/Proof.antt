@@ -10,9 +10,9 @@ use borrow.Author.Tests.{eq-eqb, ne-eqb}
 use lib.Dec.{eqb}
 use lib.ListN.{length, getD, take, drop, drop-of-length-le}
 use lib.Seq.{drop-cons, getD-take, length-take-le}
-use Rattle.decoder.specs.Store.{sameBytes}
-use Rattle.decoder.proofs.store.starts_with.Statement.{statement}
-use Rattle.decoder.proofs.store.starts_with.Tie as tie
+use Rattle.field.specs.Bytes.{sameBytes}
+use Rattle.field.proofs.bytes.starts_with.Statement.{statement}
+use Rattle.field.proofs.bytes.starts_with.Tie as tie
 
 -- `bytes` cut to the length of `front`, and what is left of both from place i on
 module _ (bytes front : List ℕ) (long : length front ≤ length bytes) (i : ℕ) where

@@ -7,8 +7,8 @@ use native.Mathlib.Omega.{arith}
 use lib.ListN.{length, getD, take, drop, set, length-set}
 use lib.Seq.{drop-cons, take-suc, take-length, set-at, length-take-le}
 use borrow.Author.Needs.{needs}
-use Rattle.strand.proofs.droplet_bytes.copy.Statement.{statement}
-use Rattle.strand.proofs.droplet_bytes.copy.Tie as tie
+use Rattle.field.proofs.bytes.copy.Statement.{statement}
+use Rattle.field.proofs.bytes.copy.Tie as tie
 
 abbrev Inv-loop : tie.InvT-loop
 Inv-loop from to₀ i₀ to i = (i ≤ length from) × (length to ≡ length to₀) × (to ≡ take i from ++ drop i to₀)

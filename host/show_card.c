@@ -1,0 +1,64 @@
+/* Shows a pool card, so that a person can check it: its numbers, and then its weights by degree.
+ *
+ *   show_card pool.card
+ *
+ * Status 0: the card is accepted and shown. 1: it is refused, and the question is named. 2: it could not be read, or not be shown. */
+#include <stdio.h>
+#include "card_questions.h"
+#include "fountain.h"
+
+/* A byte more than question 1 lets a card have is kept, so that the reader refuses what is longer. */
+enum { HEAD = 20, CARD_KEPT = HEAD + 65535 + 1 };
+
+static const struct {
+    const char *name, *meaning;
+} NUMBERS[7] = {
+    {"F", "file length in bytes"},
+    {"L", "segment length in bytes"},
+    {"R", "check bytes of a strand"},
+    {"m", "longest run of one base allowed"},
+    {"lo", "C and G at least, in thousandths"},
+    {"hi", "C and G at most, in thousandths"},
+    {"D", "weights, by degree:"},
+};
+
+static uint32_t weight(const uint8_t *bytes)
+{
+    return (uint32_t)bytes[0] << 24 | (uint32_t)bytes[1] << 16 | (uint32_t)bytes[2] << 8 | bytes[3];
+}
+
+int main(int argc, char **argv)
+{
+    static uint8_t card[CARD_KEPT];
+    uint64_t numbers[7];
+    if (argc != 2) {
+        fprintf(stderr, "usage: show_card CARD\n");
+        return 2;
+    }
+    FILE *file = fopen(argv[1], "rb");
+    if (file == NULL) {
+        perror(argv[1]);
+        return 2;
+    }
+    size_t card_len = fread(card, 1, sizeof card, file);
+    int failed = ferror(file);
+    if (failed)
+        perror(argv[1]);
+    fclose(file);
+    if (failed)
+        return 2;
+    uint32_t refused = fountain_read_card(card, card_len, numbers);
+    if (refused != 0) {
+        fprintf(stderr, "show_card: %s is refused by question %u: %s\n", argv[1], (unsigned)refused, question(refused));
+        return 1;
+    }
+    for (int i = 0; i < 7; i++)
+        printf("%-4s %10lu  %s\n", NUMBERS[i].name, (unsigned long)numbers[i], NUMBERS[i].meaning);
+    for (unsigned long i = 0; i < numbers[6]; i++)
+        printf("%4lu %10lu\n", i + 1, (unsigned long)weight(card + HEAD + 4 * i));
+    if (ferror(stdout) || fclose(stdout) != 0) {
+        perror("show_card: standard output");
+        return 2;
+    }
+    return 0;
+}
