@@ -7,7 +7,7 @@ run:
 	@rt check listing >target/run.log 2>&1 || { cat target/run.log >&2; exit 1; }
 	@cd crates/listing/data && ../../../target/bin/listing <../stdin
 
-# Proves the card cutter and the card reader, and builds the programs that cut and show a card.
+# Proves all that stands in the archive of the card cutter and the card reader, and builds the programs that cut and show a card.
 cards:
 	@mkdir -p target/bin
 	@rt staticlib capi >target/cards.log 2>&1 || { cat target/cards.log >&2; exit 1; }

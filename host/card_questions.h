@@ -1,4 +1,5 @@
-/* What the questions 1 to 4 ask of a pool card, in words, for the programs that cut and show one. */
+/* What the questions 1 to 4 ask of a pool card, in words, for the programs that cut and show one. Question 4 also asks that the bytes of
+ * the weights are a multiple of 4: that cannot fail there. */
 #ifndef CARD_QUESTIONS_H
 #define CARD_QUESTIONS_H
 

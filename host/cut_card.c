@@ -6,103 +6,112 @@
  * Status 0: the card was cut. 1: it is refused, and the question is named. 2: a number is none, too large or missing, and its name
  * or line is given; or something could not be read or written. With 1 and 2 the reason stands on standard error, and nothing
  * was put on standard output, unless that is what failed. */
-#define _POSIX_C_SOURCE 200809L
 #include <ctype.h>
 #include <stdio.h>
 #include <stdlib.h>
-#include <sys/types.h>
 #include "card_questions.h"
 #include "fountain.h"
 
 /* One weight more than a card may have is kept, so that the cutter refuses what has too many. */
 enum { HEAD = 20, WEIGHTS_KEPT = 1025, CARD_MOST = HEAD + 4 * 1024, QUOTED_MOST = 40 };
+#define WORD_MOST UINT32_C(4294967295)
 
 static const struct {
     const char *name;
     uint32_t most; /* what the card's field can hold */
-} NUMBERS[6] = {{"F", 4294967295}, {"L", 255}, {"R", 255}, {"m", 255}, {"lo", 65535}, {"hi", 65535}};
+} NUMBERS[6] = {{"F", WORD_MOST}, {"L", 255}, {"R", 255}, {"m", 255}, {"lo", 65535}, {"hi", 65535}};
 
-struct text {
-    const char *start;
+/* A number as it was typed. However long it is, its first characters and its value are all that is kept. */
+struct typed {
+    char quoted[QUOTED_MOST];
     size_t length;
+    int digits_only;
+    uint64_t value; /* of the digits; from WORD_MOST + 1 on it grows no more */
 };
 
-/* Starts the line that says what is wrong with a number: where it stands, and the number itself in quotes. */
-static void name(const char *where, struct text t)
+static const struct typed NOTHING = {{0}, 0, 1, 0};
+
+static void type(struct typed *t, int c)
 {
-    fprintf(stderr, "cut_card: %s: '", where);
-    for (size_t i = 0; i < t.length && i < QUOTED_MOST; i++)
-        fputc(isprint((unsigned char)t.start[i]) ? t.start[i] : '?', stderr);
-    fprintf(stderr, "%s' is ", t.length > QUOTED_MOST ? ".." : "");
+    if (t->length < QUOTED_MOST)
+        t->quoted[t->length] = (char)(isprint(c) ? c : '?');
+    t->length++;
+    if (c < '0' || c > '9')
+        t->digits_only = 0;
+    else if (t->value <= WORD_MOST)
+        t->value = 10 * t->value + (uint64_t)(c - '0');
 }
 
-/* A decimal number of at most `most`: digits and nothing else. */
-static uint32_t number(const char *where, struct text t, uint32_t most)
+/* The number, if it is one of at most `most`. Otherwise says what is wrong with it, and stops. */
+static uint32_t number(const char *where, const struct typed *t, uint32_t most)
 {
-    uint64_t n = 0;
-    if (t.length == 0) {
+    int shown = (int)(t->length < QUOTED_MOST ? t->length : QUOTED_MOST);
+    const char *more = t->length > QUOTED_MOST ? ".." : "";
+    if (t->length == 0)
         fprintf(stderr, "cut_card: %s: the number is missing\n", where);
-        exit(2);
-    }
-    for (size_t i = 0; i < t.length; i++)
-        if (t.start[i] < '0' || t.start[i] > '9') {
-            name(where, t);
-            fprintf(stderr, "no decimal number\n");
-            exit(2);
-        }
-    for (size_t i = 0; i < t.length; i++) {
-        n = 10 * n + (uint64_t)(t.start[i] - '0');
-        if (n > most) {
-            name(where, t);
-            fprintf(stderr, "too large: %lu at most\n", (unsigned long)most);
-            exit(2);
-        }
-    }
-    return (uint32_t)n;
+    else if (!t->digits_only)
+        fprintf(stderr, "cut_card: %s: '%.*s%s' is no decimal number\n", where, shown, t->quoted, more);
+    else if (t->value > most)
+        fprintf(stderr, "cut_card: %s: '%.*s%s' is too large: %lu at most\n", where, shown, t->quoted, more, (unsigned long)most);
+    else
+        return (uint32_t)t->value;
+    exit(2);
 }
 
-static void usage(const char *what, const char *name)
+static void usage(const char *which, const char *what)
 {
-    fprintf(stderr, "cut_card: %s%s\nusage: cut_card F L R m lo hi < WEIGHTS > CARD\n", name, what);
+    fprintf(stderr, "cut_card: %s%s\nusage: cut_card F L R m lo hi < WEIGHTS > CARD\n", which, what);
     exit(2);
 }
 
 static void six_numbers(int argc, char **argv, uint32_t numbers[6])
 {
     if (argc < 7)
-        usage(" is missing", NUMBERS[argc < 1 ? 0 : argc - 1].name);
+        usage(NUMBERS[argc < 1 ? 0 : argc - 1].name, " is missing");
     if (argc > 7)
-        usage(": there are six numbers, and this is one more", argv[7]);
+        usage(argv[7], ": there are six numbers, and this is one more");
     for (int i = 0; i < 6; i++) {
-        struct text t = {argv[i + 1], 0};
-        while (t.start[t.length] != '\0')
-            t.length++;
-        numbers[i] = number(NUMBERS[i].name, t, NUMBERS[i].most);
+        struct typed t = NOTHING;
+        for (const char *c = argv[i + 1]; *c != '\0'; c++)
+            type(&t, (unsigned char)*c);
+        numbers[i] = number(NUMBERS[i].name, &t, NUMBERS[i].most);
     }
 }
 
-/* The bytes of the weights. A line ends with a newline, or a carriage return and a newline, or where the input ends. */
+/* The next line of standard input, or 0 if there is none. A line ends with a newline, with a carriage return before it or not, or
+ * where the input ends. */
+static int read_line(struct typed *t)
+{
+    int c = getchar();
+    if (c == EOF)
+        return 0;
+    *t = NOTHING;
+    while (c != EOF && c != '\n') {
+        int next = getchar();
+        if (c != '\r' || next != '\n')
+            type(t, c);
+        c = next;
+    }
+    return 1;
+}
+
+/* The bytes of the weights. */
 static size_t read_weights(uint8_t weights[4 * WEIGHTS_KEPT])
 {
-    char *line = NULL;
-    size_t size = 0, count = 0;
-    ssize_t got;
-    for (unsigned long at = 1; (got = getline(&line, &size, stdin)) >= 0; at++) {
-        struct text t = {line, (size_t)got};
+    struct typed t;
+    size_t count = 0;
+    for (unsigned long at = 1; read_line(&t); at++) {
         char where[32];
-        if (t.length > 0 && line[t.length - 1] == '\n')
-            t.length--;
-        if (t.length > 0 && line[t.length - 1] == '\r')
-            t.length--;
+        if (ferror(stdin))
+            break;
         snprintf(where, sizeof where, "line %lu", at);
-        uint32_t weight = number(where, t, 4294967295);
+        uint32_t weight = number(where, &t, WORD_MOST);
         if (count < WEIGHTS_KEPT) {
             for (int i = 0; i < 4; i++)
                 weights[4 * count + (size_t)i] = (uint8_t)(weight >> (24 - 8 * i));
             count++;
         }
     }
-    free(line);
     if (ferror(stdin)) {
         perror("cut_card: standard input");
         exit(2);

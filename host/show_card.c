@@ -3,11 +3,13 @@
  *   show_card pool.card
  *
  * Status 0: the card is accepted and shown. 1: it is refused, and the question is named. 2: it could not be read, or not be shown. */
+#include <errno.h>
 #include <stdio.h>
+#include <string.h>
 #include "card_questions.h"
 #include "fountain.h"
 
-/* A byte more than question 1 lets a card have is kept, so that the reader refuses what is longer. */
+/* A byte more is kept than a length of two bytes can say, so that the reader refuses what is longer. */
 enum { HEAD = 20, CARD_KEPT = HEAD + 65535 + 1 };
 
 static const struct {
@@ -36,17 +38,12 @@ int main(int argc, char **argv)
         return 2;
     }
     FILE *file = fopen(argv[1], "rb");
-    if (file == NULL) {
-        perror(argv[1]);
+    size_t card_len = file == NULL ? 0 : fread(card, 1, sizeof card, file);
+    if (file == NULL || ferror(file)) {
+        fprintf(stderr, "show_card: %s: %s\n", argv[1], strerror(errno));
         return 2;
     }
-    size_t card_len = fread(card, 1, sizeof card, file);
-    int failed = ferror(file);
-    if (failed)
-        perror(argv[1]);
     fclose(file);
-    if (failed)
-        return 2;
     uint32_t refused = fountain_read_card(card, card_len, numbers);
     if (refused != 0) {
         fprintf(stderr, "show_card: %s is refused by question %u: %s\n", argv[1], (unsigned)refused, question(refused));

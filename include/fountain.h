@@ -65,7 +65,7 @@ uint32_t fountain_read_card(const uint8_t *card, size_t card_len, uint64_t answe
  *   out, out_len      lent for the card, at least 20 + weights_len bytes (no card has more than 4,116)
  *   answer            lent for one number: the card's length in bytes, 20 + weights_len
  *
- * Returns 0 and fills answer. The card is then at the start of out, and the bytes of out past it are as they were.
+ * Returns 0 and fills answer. The card is then the first answer[0] bytes of out, and those past it are as they were.
  * fountain_read_card, handed the card, accepts it and gives these numbers; and a card that it accepts, cut again from its
  * numbers and weights, is the same bytes. Otherwise:
  *

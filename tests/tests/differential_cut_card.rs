@@ -1,5 +1,5 @@
 //! The card cutter of the archive `libcapi.a` beside the second implementation's, over random numbers and plans. Each card that the
-//! archive cuts is read, and cut again from what was read.
+//! archive cuts is read by both, and cut again by the archive from what was read.
 
 mod differential;
 
@@ -27,6 +27,7 @@ extern "C" {
         out_len: usize,
         answer: *mut u64,
     ) -> u32;
+    fn fountain_read_card(card: *const u8, card_len: usize, answer: *mut u64) -> u32;
 }
 
 /// The bytes of a card before its weights.
@@ -170,12 +171,38 @@ impl Case {
                 read_back.report()
             )));
         }
+        self.compare_archive_read(random, card)
+            .map_err(|e| report(format!("read by the archive: {e}")))?;
         let again = Case::in_buffer(random, read_back, card.len());
         let after = again.compare(random, regions, &again.expected())?;
         if after != card {
             return Err(report(format!("read and cut, it is {}", hex(&after))));
         }
         Ok(())
+    }
+
+    /// The archive's own card reader gives the numbers of the case and D.
+    fn compare_archive_read(&self, random: &mut Random, card: &[u8]) -> Result<(), String> {
+        let Numbers {
+            f, l, r, m, lo, hi, ..
+        } = self.numbers;
+        let lent = Lent::new(random, card);
+        let mut answer = Lent::new(random, &[0u64; 7]);
+        // The pointers stand for the card's bytes and for seven numbers.
+        let got = unsafe { fountain_read_card(lent.pointer(), lent.len(), answer.pointer_mut()) };
+        if got != 0 {
+            return Err(format!("refused as {got}"));
+        }
+        let d = self.numbers.d() as u64;
+        answer.holds(&[
+            f.into(),
+            l.into(),
+            r.into(),
+            m.into(),
+            lo.into(),
+            hi.into(),
+            d,
+        ])
     }
 
     fn report(&self) -> String {
@@ -340,7 +367,7 @@ fn any_long_plan(random: &mut Random) -> Numbers {
     cards::accepted(random, l, k, d)
 }
 
-/// So many weights that their length takes more than two bytes, which alone would say D.
+/// So many weights that their length takes more than two bytes, of which the two low ones say the length before.
 fn over_two_bytes(random: &mut Random, numbers: &mut Numbers) {
     let length = numbers.weights.len() + 65_536 * random.between(1, 2);
     numbers.weights.resize(length, 0);

@@ -1,5 +1,5 @@
--- Document 01, "Bench examples": all starred lines, each part of each, and then examples of document 02's Items 1, 12 and 2, as rows of
--- one list under one proposition, over the definitions that the contracts cite. Assumes nothing.
+-- Document 01, "Bench examples": all starred lines, each part of each, and then examples of document 02's Item 1 and our own of Items 12 and 2, as
+-- rows of one list under one proposition, over the definitions that the contracts cite. Assumes nothing.
 use mathlib.Core.Path.{_≡_, refl}
 use mathlib.Core.List.{List, [], _∷_, _++_}
 use Prim.Native.Nat.{ℕ, zero, suc, _+_, _*_}
@@ -10,7 +10,7 @@ use Rattle.field.specs.Shift.{shiftUp}
 use Rattle.field.specs.Generator.{ofSeed, afterDraw, numberDrawn, xorshift, seedAfter}
 use Rattle.field.specs.CheckBytes.{double, timesPower, horner, syndromes, byRoot, multiple, remainderAfter, parity}
 use Rattle.droplet.specs.declared.card.Card.{Card}
-use Rattle.droplet.specs.PoolCard.{numberAt, twoBytes, fieldBytes, cardBytes, cardNumbers, wellFormed, cardWeights, weightCount, weightAt, firstWeights, segmentCount, strandBytes, strandBases}
+use Rattle.droplet.specs.PoolCard.{numberAt, toTwoBytes, fieldBytes, cardBytes, cardNumbers, wellFormed, cardWeights, weightCount, weightAt, firstWeights, segmentCount, strandBytes, strandBases}
 use Rattle.droplet.specs.Questions.{sizesRight, limitsRight, weightsRight, cardRefusal, cardReadingRefusal, CardRead, cardReading}
 use Rattle.droplet.specs.CardCutter.{Cut, cut, CutEnd, ended, cutCard}
 use Rattle.droplet.specs.Droplet.{degreeFrom, degree, member, pickFrom, degreeOf, segmentsOf, segment, payload}
@@ -56,7 +56,7 @@ pub data Row : Type 0 where
   answers : List ℕ → ℕ → Row
   restores : List (List ℕ) → RestoreEnd → Row
   writes : Card → ℕ → ℕ → ℕ → Written → Row
-  cuts : List ℕ → List ℕ → CutEnd → Row
+  cutsCard : List ℕ → List ℕ → CutEnd → Row
 
 -- the first numbers drawn from a state, as many as the list has
 abbrev pub drawnFrom : Draw → List ℕ → List ℕ
@@ -91,7 +91,7 @@ Holds (steps s t) = seedAfter s ≡ t
 Holds (answers ws n) = cardRefusal (cardP 15 214) ws ≡ n
 Holds (restores offered end) = restoreAfter offered (replicate 20 7) 0 ≡ end
 Holds (writes c start wanted budget answer) = writerAnswer c (weights 2 1) fileQ start wanted budget (wanted * (strandBases c + 1)) 2 ≡ answer
-Holds (cuts ws buffer end) = cutCard (cardP 15 214) ws buffer ≡ end
+Holds (cutsCard ws buffer end) = cutCard (cardP 15 214) ws buffer ≡ end
 
 -- the strands of seeds 1, 2 and 3
 abbrev pub letters1 : List ℕ
@@ -163,13 +163,13 @@ rows =
     ∷ writes (limitsP 4 450 550) 0x12345678 10 1000 (written Done 10 49 0x506EC32B 7 32)
     ∷ writes (limitsP 3 400 600) 0x12345678 10 1000 (written Done 10 13 0x8ACEB9DE 2 1)
     ∷ writes (limitsP 3 450 550) 0x12345678 10 20 (written Spent 2 20 0x675CDD91 5 13)
-    ∷ cuts (weights 2 1) (replicate 29 7) (ended (cut 28) (bytesP ++ (7 ∷ [])))
-    ∷ cuts (weights 2 1) (replicate 27 7) (ended (Cut.refused 19) (replicate 27 7))
-    ∷ cuts (weights 5 1) [] (ended (Cut.refused 4) [])
+    ∷ cutsCard (weights 2 1) (replicate 29 7) (ended (cut 28) (bytesP ++ (7 ∷ [])))
+    ∷ cutsCard (weights 2 1) (replicate 27 7) (ended (Cut.refused 19) (replicate 27 7))
+    ∷ cutsCard (weights 5 1) [] (ended (Cut.refused 4) [])
     ∷ []
 
 pub examples : All Holds rows
-unfolding cardReading cardReadingRefusal wellFormed cardBytes fieldBytes twoBytes cardNumbers cutCard seedAfter seedWord segmentsOf degreeOf degree degreeFrom pickFrom member ofSeed afterDraw numberDrawn xorshift segment payload padded strandWord toBigEndian fromBigEndian parity remainderAfter xorLists multiple byRoot timesPower double shiftUp horner syndromes cardRefusal sizesRight limitsRight weightsRight segmentCount strandBytes firstWeights weightAt numberAt letterOf letterBits allLetters byteBases wordBases byteLetters wordLetters lettersByte lettersWord textLetters lettersBases siteBefore siteAfter orderOf withBase longestOf longestRun gcCount measureOf verdict wordVerdict screenPasses sumsZero wordReading lettersReading readCheck recordBytes recordText recordPayload recordFrom records sameBytes findSeed appended compared storeReading storeRead droplets marked missing known filled filledBy step pass present peel cleared peelAll contradicts contradictions hasSeed roomRefusal laterRefusal restoreRefusal restore oneTry writeFrom writerRun ownRefusal writerRefusal
+unfolding cardReading cardReadingRefusal wellFormed cardBytes fieldBytes toTwoBytes cardNumbers cutCard seedAfter seedWord segmentsOf degreeOf degree degreeFrom pickFrom member ofSeed afterDraw numberDrawn xorshift segment payload padded strandWord toBigEndian fromBigEndian parity remainderAfter xorLists multiple byRoot timesPower double shiftUp horner syndromes cardRefusal sizesRight limitsRight weightsRight segmentCount strandBytes firstWeights weightAt numberAt letterOf letterBits allLetters byteBases wordBases byteLetters wordLetters lettersByte lettersWord textLetters lettersBases siteBefore siteAfter orderOf withBase longestOf longestRun gcCount measureOf verdict wordVerdict screenPasses sumsZero wordReading lettersReading readCheck recordBytes recordText recordPayload recordFrom records sameBytes findSeed appended compared storeReading storeRead droplets marked missing known filled filledBy step pass present peel cleared peelAll contradicts contradictions hasSeed roomRefusal laterRefusal restoreRefusal restore oneTry writeFrom writerRun ownRefusal writerRefusal
 examples = (
   (refl, refl),
   (

@@ -1,18 +1,19 @@
 -- The bytes of a card: what stands before the weights, what the reader finds at its places, and what a well-formed card is made of.
 -- Assumes nothing.
 use mathlib.Core.Path.{_≡_, refl, sym, ap, _∙_}
-use mathlib.Core.Bool.{true}
+use mathlib.Core.Bool.{true, false≢true}
 use mathlib.Core.List.{List, [], _∷_, _++_}
+use mathlib.Core.Logic.{inl, inr}
 use Prim.Native.Nat.{ℕ, _+_, _-_, _/_, _%_, _^_, _≤_, _<_}
 use native.Mathlib.Omega.{arith}
 use lib.ListN.{length, getD, take, drop, length-drop, take-append-drop}
 use lib.Seq.{take-all, length-take-le}
 use Rattle.field.specs.Bytes.{fromBigEndian, toBigEndian, sameBytes}
+use Rattle.field.proofs.Tests.{either}
 use Rattle.field.proofs.BigEndian.{to-from}
 use Rattle.field.proofs.SameBytes.{same-eq, eq-same, same-append}
 use Rattle.droplet.specs.declared.card.Card.{Card}
-use Rattle.droplet.specs.PoolCard.{numberAt, twoBytes, fieldBytes, cardBytes, weightsStart, cardNumbers, cardWeights, wellFormed}
-use Rattle.droplet.proofs.Conjunctions.{and-true}
+use Rattle.droplet.specs.PoolCard.{numberAt, toTwoBytes, fieldBytes, cardBytes, weightsStart, cardNumbers, cardWeights, wellFormed}
 
 -- ---- the bytes before the weights
 
@@ -21,25 +22,25 @@ headBytes c ws = take weightsStart (cardBytes c ws)
 
 module _ (c : Card) (ws : List ℕ) where
   pub weights-back : cardWeights (cardBytes c ws) ≡ ws
-  unfolding cardBytes fieldBytes twoBytes toBigEndian
+  unfolding cardBytes fieldBytes toTwoBytes toBigEndian
   weights-back = refl
 
   pub head-length : length (headBytes c ws) ≡ weightsStart
-  unfolding cardBytes fieldBytes twoBytes toBigEndian
+  unfolding cardBytes fieldBytes toTwoBytes toBigEndian
   head-length = refl
 
   pub head-and-weights : cardBytes c ws ≡ headBytes c ws ++ ws
-  unfolding cardBytes fieldBytes twoBytes toBigEndian
+  unfolding cardBytes fieldBytes toTwoBytes toBigEndian
   head-and-weights = refl
 
   pub card-length : length (cardBytes c ws) ≡ weightsStart + length ws
-  unfolding cardBytes fieldBytes twoBytes toBigEndian
+  unfolding cardBytes fieldBytes toTwoBytes toBigEndian
   card-length = omega arith
 
   -- the first byte of the third field's length
-  pub third-length : getD (cardBytes c ws) 18 0 ≡ length ws / 256
-  unfolding cardBytes fieldBytes twoBytes toBigEndian
-  third-length = refl
+  pub third-length-high : getD (cardBytes c ws) 18 0 ≡ length ws / 256
+  unfolding cardBytes fieldBytes toTwoBytes toBigEndian
+  third-length-high = refl
 
 -- ---- the numbers at their places
 
@@ -47,23 +48,27 @@ pub one-back : (n : ℕ) → fromBigEndian (n ∷ []) ≡ n
 unfolding fromBigEndian
 one-back n = omega arith
 
-pub two-back : (n : ℕ) → fromBigEndian (twoBytes n) ≡ n
-unfolding fromBigEndian twoBytes
+pub two-back : (n : ℕ) → fromBigEndian (toTwoBytes n) ≡ n
+unfolding fromBigEndian toTwoBytes
 two-back n = omega arith
 
 pub numbers-back : (c : Card) (ws : List ℕ) → c .f < 2 ^ 32 → cardNumbers (cardBytes c ws) ≡ c
-unfolding cardNumbers numberAt cardBytes fieldBytes twoBytes toBigEndian
+unfolding cardNumbers numberAt cardBytes fieldBytes toTwoBytes toBigEndian
 numbers-back c ws h = rw (to-from (c .f) h, one-back (c .l), one-back (c .r), one-back (c .m), two-back (c .lo), two-back (c .hi))
 
 -- ---- well-formed cards
 
 pub card-well-formed : (c : Card) (ws : List ℕ) → c .f < 2 ^ 32 → length ws % 4 ≡ 0 → wellFormed (cardBytes c ws) ≡ true
 unfolding wellFormed
-card-well-formed c ws h e = rw (numbers-back c ws h, weights-back c ws, eq-same (cardBytes c ws), e)
+card-well-formed c ws h e = rw (numbers-back c ws h, weights-back c ws) (simp (eq-same, e))
 
 pub own-bytes : (card : List ℕ) → wellFormed card ≡ true → card ≡ cardBytes (cardNumbers card) (cardWeights card)
 unfolding wellFormed
-own-bytes card e = same-eq _ _ (and-true (sameBytes card (cardBytes (cardNumbers card) (cardWeights card))) _ e .0)
+own-bytes card e =
+    elim (either (sameBytes card (cardBytes (cardNumbers card) (cardWeights card)))) [
+      | inl same ↦ same-eq _ _ same
+      | inr other ↦ absurd (false≢true (rw other at e))
+    ]
 
 pub well-formed-long : (card : List ℕ) → wellFormed card ≡ true → weightsStart ≤ length card
 well-formed-long card e =

@@ -1,5 +1,5 @@
--- A list of bytes is a well-formed card just if it is three fields (`WellFormedIs`): a field's bytes spell what is read from them, and
--- bytes are spelled by the number that they give. Assumes nothing.
+-- A list of bytes is a well-formed card just if it is three fields (`WellFormedIs`): a number written into bytes is read from them, and
+-- bytes are those of the number that is read from them. Assumes nothing.
 use mathlib.Core.Path.{_≡_, refl, sym, ap, subst, _∙_}
 use mathlib.Core.Bool.{_&&_}
 use mathlib.Core.List.{List, [], _∷_, _++_}
@@ -15,7 +15,7 @@ use Rattle.field.proofs.BigEndian.{from-to}
 use Rattle.field.proofs.ByteLists.{all-at}
 use Rattle.field.proofs.SameBytes.{eq-same}
 use Rattle.droplet.specs.declared.card.Card.{Card}
-use Rattle.droplet.specs.PoolCard.{numberAt, twoBytes, fieldBytes, cardBytes, weightsStart, cardNumbers, cardWeights, wellFormed}
+use Rattle.droplet.specs.PoolCard.{numberAt, toTwoBytes, fieldBytes, cardBytes, weightsStart, cardNumbers, cardWeights, wellFormed}
 use Rattle.droplet.specs.CardFields.{ThreeFields, WellFormedIs}
 use Rattle.droplet.proofs.NumberAt.{number-one, number-two, number-four}
 use Rattle.droplet.proofs.Conjunctions.{and-true}
@@ -25,7 +25,7 @@ use Rattle.droplet.proofs.CardBytes.{one-back, two-back, card-length, o
 
 module _ (c : Card) (ws : List ℕ) where
   fields : length ws % 4 ≡ 0 → ThreeFields (cardBytes c ws)
-  unfolding numberAt cardBytes fieldBytes twoBytes toBigEndian
+  unfolding numberAt cardBytes fieldBytes toTwoBytes toBigEndian
   fields e =
       record {
         size = length ws;
@@ -39,17 +39,17 @@ module _ (c : Card) (ws : List ℕ) where
   -- one part behind the other
   abbrev laidOut : List ℕ
   laidOut =
-      1 ∷ (twoBytes 6 ++ (toBigEndian (c .f) ++ (c .l ∷ c .r ∷ 2 ∷ (twoBytes 5 ++ (c .m ∷ (twoBytes (c .lo) ++ (twoBytes (c .hi)
-      ++ (3 ∷ (twoBytes (length ws) ++ ws)))))))))
+      1 ∷ (toTwoBytes 6 ++ (toBigEndian (c .f) ++ (c .l ∷ c .r ∷ 2 ∷ (toTwoBytes 5 ++ (c .m ∷ (toTwoBytes (c .lo) ++ (toTwoBytes (c .hi)
+      ++ (3 ∷ (toTwoBytes (length ws) ++ ws)))))))))
 
   laid-out : cardBytes c ws ≡ laidOut
-  unfolding cardBytes fieldBytes twoBytes toBigEndian
+  unfolding cardBytes fieldBytes toTwoBytes toBigEndian
   laid-out = refl
 
 -- ---- three fields are the bytes of a card
 
-two-of : (n x y : ℕ) → n ≡ x * 256 + y → y < 256 → twoBytes n ≡ x ∷ y ∷ []
-unfolding twoBytes
+two-of : (n x y : ℕ) → n ≡ x * 256 + y → y < 256 → toTwoBytes n ≡ x ∷ y ∷ []
+unfolding toTwoBytes
 two-of n x y e h =
     let high : n / 256 ≡ x = omega arith in
     let low : n % 256 ≡ y = omega arith in
@@ -70,7 +70,7 @@ module _ (card : List ℕ) (bytes : AllBytes card) where
   one-at : (i n : ℕ) → i < length card → numberAt i 1 card ≡ n → drop i card ≡ n ∷ drop (i + 1) card
   one-at i n h e = next i (i + 1) refl h ∙ rw (sym e, number-one card i h)
 
-  two-at : (i n : ℕ) → i + 1 < length card → numberAt i 2 card ≡ n → drop i card ≡ twoBytes n ++ drop (i + 2) card
+  two-at : (i n : ℕ) → i + 1 < length card → numberAt i 2 card ≡ n → drop i card ≡ toTwoBytes n ++ drop (i + 2) card
   two-at i n h e =
       let spelled = two-of n (getD card i 0) (getD card (i + 1) 0) (sym e ∙ number-two card i h) (byte (i + 1) h) in
       rw (spelled, next i (i + 1) refl (omega arith), next (i + 1) (i + 2) (omega arith) h)

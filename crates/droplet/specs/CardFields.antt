@@ -6,7 +6,7 @@ use mathlib.Core.Logic.{_↔_}
 use Prim.Native.Nat.{ℕ, _+_, _%_}
 use lib.ListN.{length}
 use Rattle.field.specs.Bytes.{AllBytes}
-use Rattle.droplet.specs.PoolCard.{numberAt, wellFormed}
+use Rattle.droplet.specs.PoolCard.{numberAt, weightsStart, wellFormed}
 
 -- "a one-byte tag, a two-byte length, then the content": a field of this tag and length starts at a place
 abbrev pub FieldAt : ℕ → ℕ → ℕ → List ℕ → Type 0
@@ -19,7 +19,7 @@ pub record ThreeFields (card : List ℕ) : Type 0 where
   pub second : FieldAt 9 2 5 card
   pub third : FieldAt 17 3 size card
   pub by-four : size % 4 ≡ 0
-  pub nothing-after : length card ≡ 20 + size
+  pub nothing-after : length card ≡ weightsStart + size
 
 -- a list of bytes is well-formed just if it is these three fields
 abbrev pub WellFormedIs : Type 0

@@ -15,18 +15,18 @@ unfoldable pub numberAt : ℕ → ℕ → List ℕ → ℕ
 numberAt at n bytes = fromBigEndian (take n (drop at bytes))
 
 -- the two bytes that spell a number; of one that needs more than two, the first is no byte
-unfoldable pub twoBytes : ℕ → List ℕ
-twoBytes n = n / 256 ∷ n % 256 ∷ []
+unfoldable pub toTwoBytes : ℕ → List ℕ
+toTwoBytes n = n / 256 ∷ n % 256 ∷ []
 
 -- "a one-byte tag, a two-byte length, then the content"
 unfoldable pub fieldBytes : ℕ → List ℕ → List ℕ
-fieldBytes tag content = tag ∷ (twoBytes (length content) ++ content)
+fieldBytes tag content = tag ∷ (toTwoBytes (length content) ++ content)
 
 -- the bytes of a card, "three fields, in this order": tag 1 with F, L and R, tag 2 with m, lo and hi, tag 3 with the weights
 unfoldable pub cardBytes : Card → List ℕ → List ℕ
 cardBytes c weights =
     fieldBytes 1 (toBigEndian (c .f) ++ (c .l ∷ c .r ∷ []))
-    ++ (fieldBytes 2 (c .m ∷ (twoBytes (c .lo) ++ twoBytes (c .hi))) ++ fieldBytes 3 weights)
+    ++ (fieldBytes 2 (c .m ∷ (toTwoBytes (c .lo) ++ toTwoBytes (c .hi))) ++ fieldBytes 3 weights)
 
 -- where the weights stand, "its first byte being byte 0"
 abbrev pub weightsStart : ℕ
@@ -46,7 +46,8 @@ cardNumbers card = record {
 abbrev pub cardWeights : List ℕ → List ℕ
 cardWeights card = drop weightsStart card
 
--- "tags 1, 2, 3 whole, lengths 6, 5 and a multiple of 4, nothing after": the bytes of a card of its own numbers and weights
+-- "tags 1, 2, 3 whole, lengths 6, 5 and a multiple of 4, nothing after": the bytes of the card of its own numbers and weights
+-- (field by field: `WellFormedIs` in CardFields)
 unfoldable pub wellFormed : List ℕ → Bool
 wellFormed card = sameBytes card (cardBytes (cardNumbers card) (cardWeights card)) && eqb (length (cardWeights card) % 4) 0
 

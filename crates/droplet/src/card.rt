@@ -3,10 +3,12 @@ ghost use mathlib.Core.Bool.{cond, _||_};
 ghost use Prim.Native.Nat.{_+_, _*_, _≤_, _<_};
 ghost use lib.Dec.{eqb};
 ghost use lib.ListN.{length, take};
-ghost use Rattle.droplet.specs.PoolCard.{numberAt, twoBytes, cardBytes, weightsStart, cardNumbers, wellFormed, weightSum, segmentCount, strandBytes, basesOf, bytesOf};
+ghost use Rattle.droplet.specs.PoolCard.{numberAt, toTwoBytes, cardBytes, weightsStart, cardNumbers, wellFormed, weightSum, segmentCount, strandBytes, basesOf, bytesOf};
 ghost use Rattle.droplet.specs.Questions.{within, sizesRight, limitsRight, weightsRight, planAnswer, planOf, cardAnswer, cardReading};
 use crate::weights;
-use field::bytes;
+use field::bytes::join;
+use field::bytes::split;
+use field::bytes::starts_with;
 
 // The numbers of a pool card: F, L, R, m, lo and hi.
 pub struct Card {
@@ -170,7 +172,7 @@ fn card_numbers(bytes: &[u8]) -> Card
     ensures { λ r. ⌜ r ≡ cardNumbers (now (bytes .entry)) ⌝ }
 {
     Card {
-        f: bytes::join(bytes[3], bytes[4], bytes[5], bytes[6]),
+        f: join(bytes[3], bytes[4], bytes[5], bytes[6]),
         l: bytes[7],
         r: bytes[8],
         m: bytes[12],
@@ -181,7 +183,7 @@ fn card_numbers(bytes: &[u8]) -> Card
 
 // The two bytes of a number.
 fn split_two(n: u16) -> [u8; 2]
-    ensures { λ r. ⌜ r ≡ twoBytes n ⌝ }
+    ensures { λ r. ⌜ r ≡ toTwoBytes n ⌝ }
 {
     [(n / 256) as u8, (n % 256) as u8]
 }
@@ -192,7 +194,7 @@ pub fn card_head(card: Card, weights: &[u8]) -> [u8; 20]
     requires { ⌜ length (now weights) < 65536 ⌝ }
     ensures { λ r. ⌜ r ≡ take weightsStart (cardBytes card (now (weights .entry))) ⌝ }
 {
-    let f = bytes::split(card.f);
+    let f = split(card.f);
     let lo = split_two(card.lo);
     let hi = split_two(card.hi);
     let size = split_two(weights.len() as u16);
@@ -221,19 +223,19 @@ pub fn card_head(card: Card, weights: &[u8]) -> [u8; 20]
 }
 
 // Question 1. A card is well-formed if it starts as the card of its own numbers and weights does: the length of the third field is
-// then what is left, so that nothing stands after it.
-fn well_formed(card: &[u8]) -> bool
-    ensures { λ r. ⌜ r ≡ wellFormed (now (card .entry)) ⌝ }
+// then what is left, so that nothing stands after it. What two bytes cannot say is no length.
+fn well_formed(bytes: &[u8]) -> bool
+    ensures { λ r. ⌜ r ≡ wellFormed (now (bytes .entry)) ⌝ }
 {
-    if card.len() < 20 {
+    if bytes.len() < 20 {
         return false;
     }
-    let size = card.len() - 20;
+    let size = bytes.len() - 20;
     if 65535 < size {
         return false;
     }
-    let head = card_head(card_numbers(card), &card[20..]);
-    bytes::starts_with(card, &head) && size % 4 == 0
+    let head = card_head(card_numbers(bytes), &bytes[20..]);
+    starts_with(bytes, &head) && size % 4 == 0
 }
 
 // The card reader. The weights stand from byte 20 on.

@@ -2,7 +2,7 @@ ghost use Rattle.droplet.specs.CardCutter.{CutPromise};
 use crate::card;
 use crate::card::Card;
 use crate::card::PlanAnswer;
-use field::bytes;
+use field::bytes::copy_both;
 
 // What the card cutter answers: the card's length in bytes, or the refusal number.
 pub enum CutAnswer {
@@ -21,6 +21,6 @@ pub fn cut_card(card: Card, weights: &[u8], out: &mut [u8]) -> CutAnswer
     if out.len() < size {
         return CutAnswer::Refused(19);
     }
-    bytes::copy_both(&card::card_head(card, weights), weights, out);
+    copy_both(&card::card_head(card, weights), weights, out);
     CutAnswer::Cut(size)
 }

@@ -1,12 +1,12 @@
 -- `card_head` meets its contract: each number's bytes stand where a card has them. Assumes nothing.
 use borrow.Author.Needs.{needs}
 use Rattle.field.specs.Bytes.{toBigEndian}
-use Rattle.droplet.specs.PoolCard.{twoBytes, fieldBytes, cardBytes}
+use Rattle.droplet.specs.PoolCard.{toTwoBytes, fieldBytes, cardBytes}
 use Rattle.droplet.proofs.card.card_head.Statement.{statement}
 use Rattle.droplet.proofs.card.card_head.Tie as tie
 
 returns : tie.Need-returns
-unfolding cardBytes fieldBytes twoBytes toBigEndian
+unfolding cardBytes fieldBytes toTwoBytes toBigEndian
 returns c =
     rw (
       c .before .before .before .split .ensures,

@@ -12,7 +12,7 @@ use Rattle.field.specs.Bytes.{sameBytes}
 use Rattle.field.proofs.Tests.{either}
 use Rattle.droplet.specs.PoolCard.{weightsStart, cardBytes, cardNumbers, cardWeights, wellFormed}
 use Rattle.droplet.proofs.Conjunctions.{and-then, and-else}
-use Rattle.droplet.proofs.CardBytes.{headBytes, head-length, third-length, own-bytes, well-formed-long, lent-weights, front-decides}
+use Rattle.droplet.proofs.CardBytes.{headBytes, head-length, third-length-high, own-bytes, well-formed-long, lent-weights, front-decides}
 use Rattle.droplet.proofs.card.well_formed.Statement.{statement}
 use Rattle.droplet.proofs.card.well_formed.Tie as tie
 
@@ -26,7 +26,7 @@ module _ (card : List ℕ) where
   too-long : getD card 18 0 < 256 → 65535 < length card - weightsStart → false ≡ wellFormed card
   too-long byte h =
       no (λ e.
-      let first = ap (λ (l : List ℕ). getD l 18 0) (own-bytes card e) ∙ third-length (cardNumbers card) (cardWeights card) in
+      let first = ap (λ (l : List ℕ). getD l 18 0) (own-bytes card e) ∙ third-length-high (cardNumbers card) (cardWeights card) in
       let rest = length-drop weightsStart card in
       let z : ⊥ = omega arith in
       z)
@@ -40,11 +40,11 @@ module _ (card : List ℕ) where
     starts = rw (e, head-length (cardNumbers card) (cardWeights card)) (sym (front-decides card long (cardNumbers card)))
 
 -- the head that is compared with
-compared : (c : tie.After-card-head) → (let card = c .before .before .before .before .before .before .args .card .now in
+compared : (c : tie.After-card-head) → (let card = c .before .before .before .before .before .before .args .bytes .now in
     c .card-head .result ≡ headBytes (cardNumbers card) (cardWeights card))
 compared c = c .card-head .ensures ∙ rw (c .before .before .card-numbers .ensures, lent-weights _)
 
-same : (c : tie.After-starts-with) → (let card = c .before .before .before .before .before .before .before .before .args .card .now in
+same : (c : tie.After-starts-with) → (let card = c .before .before .before .before .before .before .before .before .args .bytes .now in
     c .starts-with .result ≡ sameBytes card (cardBytes (cardNumbers card) (cardWeights card)))
 same c =
     let head = c .before .before in
