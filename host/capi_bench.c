@@ -1,8 +1,8 @@
-/* Runs document 01's bench example through all six functions and compares every number and every byte with the values that
+/* Runs document 01's bench example through all functions and compares every number and every byte with the values that
  * stand there or follow from its rules: reads card P and cuts it again, writes strands of file Q, checks and stores the reads of
  * seeds 2, 1, 3, and restores. On the way it has calls refused, and runs document 02's example of runs over the joints (Item 1) and the
- * header's example of dropped strands (Item 12). Each lent buffer and answer ends in bytes that must survive, and all of them
- * must survive a refusal. Returns 1 if anything differs.
+ * header's examples of dropped strands (Item 12) and of a file of seven bytes, dealt by W = 3 (Item 14). Each lent buffer and answer
+ * ends in bytes that must survive, and all of them must survive a refusal. Returns 1 if anything differs.
  *
  *   capi_bench bench.card */
 #include <stdio.h>
@@ -65,23 +65,34 @@ struct pool {
     uint32_t F;
     uint8_t L, R, m;
     uint16_t lo, hi;
+    uint8_t dealt;
+    uint32_t width;
     const uint8_t *weights;
     size_t weights_len;
 };
-#define CARD(p) (p)->F, (p)->L, (p)->R, (p)->m, (p)->lo, (p)->hi, (p)->weights, (p)->weights_len
+#define CARD(p) (p)->F, (p)->L, (p)->R, (p)->m, (p)->lo, (p)->hi, (p)->dealt, (p)->width, (p)->weights, (p)->weights_len
+
+/* The same card with a width. */
+static struct pool dealt_by(const struct pool *p, uint32_t width)
+{
+    struct pool dealt = *p;
+    dealt.dealt = 1;
+    dealt.width = width;
+    return dealt;
+}
 
 static struct pool read_card(const uint8_t *card, size_t card_len)
 {
-    static const uint64_t wanted[7] = {4, 1, 2, 15, 214, 1000, D};
-    uint64_t a[8];
+    static const uint64_t wanted[9] = {4, 1, 2, 15, 214, 1000, D, 0, 0};
+    uint64_t a[10];
     lend(a, sizeof a);
     number("a card cut short", fountain_read_card(card, card_len - 1, a), 1);
     number("no card", fountain_read_card(NULL, 0, a), 1);
     kept("the answer of a refused card", a, sizeof a);
     number("card P", fountain_read_card(card, card_len, a), 0);
-    answers("the answer of card P", a, wanted, 7);
-    struct pool p = {(uint32_t)a[0], (uint8_t)a[1],  (uint8_t)a[2], (uint8_t)a[3],
-                     (uint16_t)a[4], (uint16_t)a[5], card + 20,     (size_t)(4 * a[6])};
+    answers("the answer of card P", a, wanted, 9);
+    struct pool p = {(uint32_t)a[0], (uint8_t)a[1], (uint8_t)a[2],  (uint8_t)a[3], (uint16_t)a[4],
+                     (uint16_t)a[5], (uint8_t)a[7], (uint32_t)a[8], card + 20,     (size_t)(4 * a[6])};
     return p;
 }
 
@@ -89,10 +100,11 @@ static struct pool read_card(const uint8_t *card, size_t card_len)
 static void cut_cards(const struct pool *p, const uint8_t *card, size_t card_len)
 {
     static const uint8_t longest[20] = {1, 0, 6, 0x00, 0x80, 0x00, 0x00, 64, 4, 2, 0, 5, 20, 0x03, 0xE8, 0x03, 0xE8, 3, 0x10, 0x00};
-    static uint8_t weights[4 * 1024], out[20 + sizeof weights + SPARE];
+    static const uint8_t widest[7] = {4, 0, 4, 0x00, 0x80, 0x00, 0x00};
+    static uint8_t weights[4 * 1024], out[27 + sizeof weights + SPARE];
     struct pool sizes = *p, limits = *p, plan = *p;
-    struct pool most = {8388608, 64, 4, 20, 1000, 1000, weights, sizeof weights};
-    const uint64_t wanted[1] = {card_len}, wanted_most[1] = {20 + sizeof weights};
+    struct pool most = {8388608, 64, 4, 20, 1000, 1000, 0, 0, weights, sizeof weights}, dealt = dealt_by(&most, 8388608);
+    const uint64_t wanted[1] = {card_len}, wanted_most[1] = {20 + sizeof weights}, wanted_dealt[1] = {27 + sizeof weights};
     uint64_t a[2];
     sizes.R = 3;
     limits.hi = 1001;
@@ -117,7 +129,192 @@ static void cut_cards(const struct pool *p, const uint8_t *card, size_t card_len
     answers("the answer of the longest", a, wanted_most, 1);
     bytes("the longest card before its weights", out, longest, sizeof longest);
     bytes("the weights of the longest card", out + 20, weights, sizeof weights);
-    kept("the buffer past the longest card", out + 20 + sizeof weights, SPARE);
+    kept("the buffer past the longest card", out + 20 + sizeof weights, 7 + SPARE);
+    number("cut the longest with a width", fountain_cut_card(CARD(&dealt), out, sizeof out, a), 0);
+    answers("the answer of the longest with a width", a, wanted_dealt, 1);
+    bytes("the longest card before its weights, with a width", out, longest, sizeof longest);
+    bytes("the weights of the longest card with a width", out + 20, weights, sizeof weights);
+    bytes("the width of the longest card", out + 20 + sizeof weights, widest, sizeof widest);
+    kept("the buffer past the longest card with a width", out + 27 + sizeof weights, SPARE);
+}
+
+/* A card for the file of seven bytes below: hex 01 0006 00000007 01 02 / 02 0005 0F 0000 03E8 / 03 0004 00000001, and behind it
+ * 04 0004 00000003. */
+static const uint8_t SEVEN_CARD[31] = {1, 0, 6, 0, 0, 0, 7, 1, 2, 2, 0, 5, 15, 0, 0, 0x03, 0xE8, 3, 0, 4, 0, 0, 0, 1,
+                                       4, 0, 4, 0, 0, 0, 3};
+
+static void cut_width(const struct pool *p)
+{
+    static const uint64_t length[1] = {31}, plain_length[1] = {24};
+    static const uint64_t wanted[9] = {7, 1, 2, 15, 0, 1000, 1, 1, 3}, plain_wanted[9] = {7, 1, 2, 15, 0, 1000, 1, 0, 0};
+    struct pool wide = dealt_by(p, 8), plain = *p, no_plan = wide;
+    uint8_t out[31 + SPARE], card[32];
+    uint64_t a[10];
+    plain.dealt = 0;
+    no_plan.weights_len = 0;
+    lend(out, sizeof out);
+    lend(a, sizeof a);
+    number("cut: 4 before 27", fountain_cut_card(CARD(&no_plan), out, 0, a), 4);
+    number("cut: 27 before 19", fountain_cut_card(CARD(&wide), out, 0, a), 27);
+    number("cut: 19 with a width", fountain_cut_card(CARD(p), out, 30, a), 19);
+    kept("the buffer of a refused card with a width", out, sizeof out);
+    kept("the answer of a refused cutter with a width", a, sizeof a);
+    number("cut with a width", fountain_cut_card(CARD(p), out, 31, a), 0);
+    answers("the length with a width", a, length, 1);
+    bytes("the card with a width", out, SEVEN_CARD, 31);
+    kept("the buffer past the card with a width", out + 31, SPARE);
+    number("read with a width", fountain_read_card(out, 31, a), 0);
+    answers("the numbers of the card with a width", a, wanted, 9);
+
+    lend(a, sizeof a);
+    memcpy(card, SEVEN_CARD, 31);
+    card[31] = 0;
+    number("read: a byte after the width", fountain_read_card(card, 32, a), 1);
+    for (size_t i = 25; i < 31; i++)
+        number("read: a part of the fourth field", fountain_read_card(card, i, a), 1);
+    card[26] = 5;
+    number("read: another length of the fourth field", fountain_read_card(card, 32, a), 1);
+    card[26] = 4;
+    card[30] = 8;
+    number("read: 27", fountain_read_card(card, 31, a), 27);
+    kept("the answer of a refused card with a width", a, sizeof a);
+
+    lend(out, sizeof out);
+    number("cut without the field", fountain_cut_card(CARD(&plain), out, 24, a), 0);
+    answers("the length without the field", a, plain_length, 1);
+    bytes("the card without the field", out, SEVEN_CARD, 24);
+    kept("the buffer past the card without the field", out + 24, 7 + SPARE);
+    lend(a, sizeof a);
+    number("read without the field", fountain_read_card(out, 24, a), 0);
+    answers("the numbers of the card without the field", a, plain_wanted, 9);
+}
+
+typedef uint32_t dealing(uint32_t, uint8_t, uint8_t, uint8_t, uint16_t, uint16_t, uint8_t, uint32_t, const uint8_t *, size_t,
+                         const uint8_t *, size_t, uint8_t *, size_t);
+
+/* What dealing and its inverse refuse, and what they copy without the field. */
+static void deal_refused(const struct pool *p, dealing *call)
+{
+    static const uint32_t wrong[4] = {0, 1, 8, 0xFFFFFFFF};
+    static const uint8_t source[8] = {0, 1, 2, 3, 4, 5, 6, 7};
+    uint8_t target[7 + SPARE];
+    struct pool sizes = dealt_by(p, 8), limits = sizes, plan = sizes;
+    sizes.R = 3;
+    limits.hi = 1001;
+    plan.weights_len = 3;
+    lend(target, sizeof target);
+    number("deal: 2", call(CARD(&sizes), source, 0, target, 0), 2);
+    number("deal: 3", call(CARD(&limits), source, 0, target, 0), 3);
+    number("deal: 4", call(CARD(&plan), source, 0, target, 0), 4);
+    for (int i = 0; i < 4; i++) {
+        struct pool other = dealt_by(p, wrong[i]);
+        number("deal: 27", call(CARD(&other), source, 7, target, sizeof target), 27);
+        number("deal: 27 before 28", call(CARD(&other), NULL, 0, NULL, 0), 27);
+    }
+    number("deal: 28, source", call(CARD(p), source, 6, target, sizeof target), 28);
+    number("deal: 28, target", call(CARD(p), source, 8, target, 6), 28);
+    number("deal: 28, nothing", call(CARD(p), NULL, 0, NULL, 0), 28);
+    kept("the target of refused dealing", target, sizeof target);
+    for (int i = 0; i < 4; i++) {
+        struct pool plain = dealt_by(p, wrong[i]);
+        plain.dealt = 0;
+        lend(target, sizeof target);
+        number("deal: 28 without the field", call(CARD(&plain), source, 6, target, sizeof target), 28);
+        kept("the target of a refused copy", target, sizeof target);
+        number("copy", call(CARD(&plain), source, 8, target, sizeof target), 0);
+        bytes("the copy", target, source, 7);
+        kept("the target past the copy", target + 7, SPARE);
+    }
+}
+
+/* Seven bytes dealt by W = 3: those of the places 0, 3, 6, then of 1, 4, then of 2, 5; and by the least W, one just above 7 / 2 and
+ * the most. Any byte but 0 says that the field is there. */
+static void deal(const struct pool *p)
+{
+    static const uint8_t file[8] = {0, 1, 2, 3, 4, 5, 6, 7};
+    static const struct {
+        uint8_t yes;
+        uint32_t width;
+        uint8_t dealt[7];
+    } rows[5] = {
+        {1, 3, {0, 3, 6, 1, 4, 2, 5}},
+        {2, 3, {0, 3, 6, 1, 4, 2, 5}},
+        {128, 2, {0, 2, 4, 6, 1, 3, 5}},
+        {255, 4, {0, 4, 1, 5, 2, 6, 3}},
+        {1, 7, {0, 1, 2, 3, 4, 5, 6}},
+    };
+    for (int i = 0; i < 5; i++) {
+        struct pool there = dealt_by(p, rows[i].width);
+        uint8_t target[7 + SPARE], back[7 + SPARE];
+        there.dealt = rows[i].yes;
+        lend(target, sizeof target);
+        lend(back, sizeof back);
+        number("deal", fountain_deal(CARD(&there), file, sizeof file, target, sizeof target), 0);
+        bytes("the dealt file", target, rows[i].dealt, 7);
+        kept("the target past the dealt file", target + 7, SPARE);
+        number("undeal", fountain_undeal(CARD(&there), target, sizeof target, back, 7), 0);
+        bytes("the file again", back, file, 7);
+        kept("the target past the file", back + 7, SPARE);
+    }
+    deal_refused(p, fountain_deal);
+    deal_refused(p, fountain_undeal);
+}
+
+/* Every other call refuses card P with a W that is no width, before its own questions and after 4. */
+static void refused_widths(const struct pool *p)
+{
+    static const uint32_t wrong[4] = {0, 1, 5, 0xFFFFFFFF};
+    for (int i = 0; i < 4; i++) {
+        struct pool other = dealt_by(p, wrong[i]), plan = other;
+        uint8_t buffer[LINE + SPARE], marks[K];
+        uint32_t list[D];
+        uint64_t a[7];
+        plan.weights_len = 7;
+        lend(buffer, sizeof buffer);
+        lend(marks, sizeof marks);
+        lend(list, sizeof list);
+        lend(a, sizeof a);
+        number("write: 27", fountain_write(CARD(&other), Q, 3, 1, 1, 5, buffer, sizeof buffer, list, D, a), 27);
+        number("check: 27", fountain_check_read(CARD(&other), Q, 0, buffer, sizeof buffer), 27);
+        number("store: 27", fountain_store(CARD(&other), buffer, 0, 1, Q, 0, a), 27);
+        number("restore: 27", fountain_restore(CARD(&other), NULL, 0, 1, buffer, K, marks, K, list, D, a), 27);
+        number("write: 4", fountain_write(CARD(&plan), Q, 3, 1, 1, 5, buffer, sizeof buffer, list, D, a), 4);
+        number("check: 4", fountain_check_read(CARD(&plan), Q, 0, buffer, sizeof buffer), 4);
+        number("store: 4", fountain_store(CARD(&plan), buffer, 0, 1, Q, 0, a), 4);
+        number("restore: 4", fountain_restore(CARD(&plan), NULL, 0, 1, buffer, K, marks, K, list, D, a), 4);
+        kept("the buffer of a refused width", buffer, sizeof buffer);
+        kept("the marks of a refused width", marks, sizeof marks);
+        kept("the number list of a refused width", list, sizeof list);
+        kept("the answer of a refused width", a, sizeof a);
+    }
+}
+
+/* File Q, dealt by W = 3, is 1B E4 27 4E, so that the strand of seed 1, which picks segment 3, carries 4E. From it alone the
+ * restorer gives back 00 00 00 4E, which undealt has 4E in its place 2. */
+static void dealt_job(const struct pool *p)
+{
+    static const uint8_t dealt[K] = {0x1B, 0xE4, 0x27, 0x4E}, droplet[RECORD] = {0, 0, 0, 1, 0x4E};
+    static const uint8_t restored[K] = {0, 0, 0, 0x4E}, restored_marks[K] = {0, 0, 0, 1}, undealt[K] = {0, 0, 0x4E, 0};
+    static const uint64_t sheet[3] = {1, 2, 0};
+    struct pool job = dealt_by(p, 3);
+    uint8_t file[K], line[LINE], out[RECORD], marks[K], back[K];
+    uint32_t list[D];
+    uint64_t a[7];
+    job.m = 20;
+    job.lo = 0;
+    number("deal Q", fountain_deal(CARD(&job), Q, K, file, K), 0);
+    bytes("Q dealt", file, dealt, K);
+    number("write Q dealt", fountain_write(CARD(&job), file, K, 1, 1, 1, line, LINE, list, D, a), 0);
+    number("made of Q dealt", a[1], 1);
+    number("check a dealt strand", fountain_check_read(CARD(&job), line, N, out, RECORD), 0);
+    bytes("the droplet of Q dealt", out, droplet, RECORD);
+    lend(a, sizeof a);
+    number("restore Q dealt", fountain_restore(CARD(&job), out, RECORD, 1, file, K, marks, K, list, D, a), 0);
+    answers("the sheet of Q dealt", a, sheet, 3);
+    bytes("the dealt segments", file, restored, K);
+    bytes("the dealt marks", marks, restored_marks, K);
+    number("undeal Q", fountain_undeal(CARD(&job), file, K, back, K), 0);
+    bytes("Q undealt", back, undealt, K);
 }
 
 static void write_refused(const struct pool *p)
@@ -362,6 +559,11 @@ int main(int argc, char **argv)
     number("the card's length", card_len, 28);
     struct pool p = read_card(card, card_len);
     cut_cards(&p, card, card_len);
+    struct pool seven = {7, 1, 2, 15, 0, 1000, 1, 3, SEVEN_CARD + 20, 4};
+    cut_width(&seven);
+    deal(&seven);
+    refused_widths(&p);
+    dealt_job(&p);
     write_refused(&p);
     write_one(&p, 2, READS[0]);
     write_one(&p, 1, READS[1]);

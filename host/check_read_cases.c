@@ -3,7 +3,7 @@
  *
  *   check_read_cases < cases
  *
- * A line is: F L R m lo hi weights read out, the last three in hex; '-' stands for NULL and '.' for no bytes. */
+ * A line is: F L R m lo hi dealt width weights read out, the last three in hex; '-' stands for NULL and '.' for no bytes. */
 #define _POSIX_C_SOURCE 200809L
 #include <stdio.h>
 #include <stdlib.h>
@@ -73,10 +73,12 @@ static void run_case(char *line)
     uint8_t m = (uint8_t)next_number(&rest);
     uint16_t lo = (uint16_t)next_number(&rest);
     uint16_t hi = (uint16_t)next_number(&rest);
+    uint8_t dealt = (uint8_t)next_number(&rest);
+    uint32_t width = (uint32_t)next_number(&rest);
     struct buffer weights = next_buffer(&rest);
     struct buffer read = next_buffer(&rest);
     struct buffer out = next_buffer(&rest);
-    uint32_t answer = fountain_check_read(F, L, R, m, lo, hi, weights.bytes, weights.length,
+    uint32_t answer = fountain_check_read(F, L, R, m, lo, hi, dealt, width, weights.bytes, weights.length,
                                           read.bytes, read.length, out.bytes, out.length);
     printf("%u ", (unsigned)answer);
     for (size_t i = 0; i < out.length; i++)

@@ -3,14 +3,22 @@
  *
  *   check_reads pool.card < reads
  *
- * The card's numbers are taken from their places without a test of their own: the read check refuses wrong ones. */
+ * The card's numbers are taken from their places without a test of their own: the read check refuses wrong ones. Only where the
+ * weights end is looked at, since a fourth field, the width, may stand behind them: a file that ends elsewhere is no pool card. */
 #define _POSIX_C_SOURCE 200809L
 #include <stdio.h>
 #include <stdlib.h>
 #include <sys/types.h>
 #include "fountain.h"
 
-enum { CARD_MOST = 8192, WEIGHTS_START = 20, DROPLET_MOST = 4 + 64 };
+enum { CARD_MOST = 8192, WEIGHTS_START = 20, FOURTH = 7, DROPLET_MOST = 4 + 64 };
+
+struct card {
+    uint8_t bytes[CARD_MOST];
+    size_t length, weights_len;
+    uint8_t dealt;
+    uint32_t width;
+};
 
 static uint32_t number(const uint8_t *bytes, int count)
 {
@@ -20,13 +28,32 @@ static uint32_t number(const uint8_t *bytes, int count)
     return n;
 }
 
-static void check(const uint8_t *card, size_t card_len, const char *line, size_t length)
+/* Finds where the weights end and whether a fourth field of tag 4 and length 4 is behind them. Returns 0 if the card ends
+ * elsewhere. */
+static int find_fourth(struct card *c)
+{
+    if (c->length < WEIGHTS_START)
+        return 0;
+    c->weights_len = number(c->bytes + WEIGHTS_START - 2, 2);
+    size_t end = WEIGHTS_START + c->weights_len;
+    c->dealt = c->length != end;
+    c->width = 0;
+    if (!c->dealt)
+        return 1;
+    if (c->length != end + FOURTH || number(c->bytes + end, 3) != 0x040004)
+        return 0;
+    c->width = number(c->bytes + end + 3, 4);
+    return 1;
+}
+
+static void check(const struct card *c, const char *line, size_t length)
 {
     uint8_t droplet[DROPLET_MOST];
+    const uint8_t *card = c->bytes;
     uint8_t L = card[7];
     uint32_t answer = fountain_check_read(number(card + 3, 4), L, card[8], card[12],
                                           (uint16_t)number(card + 13, 2), (uint16_t)number(card + 15, 2),
-                                          card + WEIGHTS_START, card_len - WEIGHTS_START,
+                                          c->dealt, c->width, card + WEIGHTS_START, c->weights_len,
                                           (const uint8_t *)line, length, droplet, sizeof droplet);
     printf("%u", (unsigned)answer);
     if (answer == 0) {
@@ -39,7 +66,7 @@ static void check(const uint8_t *card, size_t card_len, const char *line, size_t
 
 int main(int argc, char **argv)
 {
-    static uint8_t card[CARD_MOST];
+    static struct card card;
     if (argc != 2) {
         fprintf(stderr, "usage: check_reads CARD < READS\n");
         return 2;
@@ -49,10 +76,10 @@ int main(int argc, char **argv)
         perror(argv[1]);
         return 2;
     }
-    size_t card_len = fread(card, 1, sizeof card, file);
+    card.length = fread(card.bytes, 1, sizeof card.bytes, file);
     int more = fgetc(file) != EOF;
     fclose(file);
-    if (card_len < WEIGHTS_START || more) {
+    if (more || !find_fourth(&card)) {
         fprintf(stderr, "%s: no pool card\n", argv[1]);
         return 2;
     }
@@ -63,7 +90,7 @@ int main(int argc, char **argv)
         size_t length = (size_t)got;
         if (length > 0 && line[length - 1] == '\n')
             length--;
-        check(card, card_len, line, length);
+        check(&card, line, length);
     }
     free(line);
     return ferror(stdin) ? 2 : 0;

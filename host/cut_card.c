@@ -1,7 +1,8 @@
 /* Cuts a pool card, so that nobody types one in a hex editor: takes the card's six numbers as arguments and its weights from
- * standard input, one decimal number a line, that of degree 1 first, and puts the card on standard output.
+ * standard input, one decimal number a line, that of degree 1 first, and puts the card on standard output. With -w the card gets a
+ * fourth field, the width W by which the file is dealt; without it the field is absent.
  *
- *   cut_card F L R m lo hi < weights > pool.card
+ *   cut_card [-w W] F L R m lo hi < weights > pool.card
  *
  * Status 0: the card was cut. 1: it is refused, and the question is named. 2: a number is none, too large or missing, and its name
  * or line is given; or something could not be read or written. With 1 and 2 the reason stands on standard error, and nothing
@@ -9,11 +10,12 @@
 #include <ctype.h>
 #include <stdio.h>
 #include <stdlib.h>
+#include <string.h>
 #include "card_questions.h"
 #include "fountain.h"
 
 /* One weight more than a card may have is kept, so that the cutter refuses what has too many. */
-enum { HEAD = 20, WEIGHTS_KEPT = 1025, CARD_MOST = HEAD + 4 * 1024, QUOTED_MOST = 40 };
+enum { HEAD = 20, WEIGHTS_KEPT = 1025, FOURTH = 7, CARD_MOST = HEAD + 4 * 1024 + FOURTH, QUOTED_MOST = 40 };
 #define WORD_MOST UINT32_C(4294967295)
 
 static const struct {
@@ -60,22 +62,34 @@ static uint32_t number(const char *where, const struct typed *t, uint32_t most)
 
 static void usage(const char *which, const char *what)
 {
-    fprintf(stderr, "cut_card: %s%s\nusage: cut_card F L R m lo hi < WEIGHTS > CARD\n", which, what);
+    fprintf(stderr, "cut_card: %s%s\nusage: cut_card [-w W] F L R m lo hi < WEIGHTS > CARD\n", which, what);
     exit(2);
 }
 
-static void six_numbers(int argc, char **argv, uint32_t numbers[6])
+static uint32_t number_of_word(const char *name, const char *word, uint32_t most)
 {
-    if (argc < 7)
-        usage(NUMBERS[argc < 1 ? 0 : argc - 1].name, " is missing");
-    if (argc > 7)
-        usage(argv[7], ": there are six numbers, and this is one more");
-    for (int i = 0; i < 6; i++) {
-        struct typed t = NOTHING;
-        for (const char *c = argv[i + 1]; *c != '\0'; c++)
-            type(&t, (unsigned char)*c);
-        numbers[i] = number(NUMBERS[i].name, &t, NUMBERS[i].most);
-    }
+    struct typed t = NOTHING;
+    for (const char *c = word; *c != '\0'; c++)
+        type(&t, (unsigned char)*c);
+    return number(name, &t, most);
+}
+
+/* Takes the words after the program's name: the option, if it comes first, and the six numbers. Returns whether W is there. */
+static int take_words(int argc, char **argv, uint32_t numbers[6], uint32_t *width)
+{
+    int with_width = argc > 1 && strcmp(argv[1], "-w") == 0;
+    int first = with_width ? 3 : 1;
+    int given = argc < first ? 0 : argc - first;
+    if (with_width && argc < first)
+        usage("W", " is missing");
+    if (given < 6)
+        usage(NUMBERS[given].name, " is missing");
+    if (given > 6)
+        usage(argv[first + 6], ": there are six numbers, and this is one more");
+    *width = with_width ? number_of_word("W", argv[2], WORD_MOST) : 0;
+    for (int i = 0; i < 6; i++)
+        numbers[i] = number_of_word(NUMBERS[i].name, argv[first + i], NUMBERS[i].most);
+    return with_width;
 }
 
 /* The next line of standard input, or 0 if there is none. A line ends with a newline, with a carriage return before it or not, or
@@ -122,12 +136,12 @@ static size_t read_weights(uint8_t weights[4 * WEIGHTS_KEPT])
 int main(int argc, char **argv)
 {
     static uint8_t weights[4 * WEIGHTS_KEPT], card[CARD_MOST];
-    uint32_t n[6];
+    uint32_t n[6], width;
     uint64_t length[1];
-    six_numbers(argc, argv, n);
+    int dealt = take_words(argc, argv, n, &width);
     size_t weights_len = read_weights(weights);
     uint32_t refused = fountain_cut_card(n[0], (uint8_t)n[1], (uint8_t)n[2], (uint8_t)n[3], (uint16_t)n[4], (uint16_t)n[5],
-                                         weights, weights_len, card, sizeof card, length);
+                                         (uint8_t)dealt, width, weights, weights_len, card, sizeof card, length);
     if (refused != 0) {
         fprintf(stderr, "cut_card: refused by question %u: %s\n", (unsigned)refused, question(refused));
         return 1;

@@ -1,6 +1,7 @@
-/* Card reader, card cutter, writer, read check, store (the hall's shelf) and restorer of a DNA-storage pool, for C and C++ hosts.
+/* Card reader, card cutter, dealing and its inverse, writer, read check, store (the hall's shelf) and restorer of a DNA-storage
+ * pool, for C and C++ hosts.
  *
- * Link libcapi.a and libstrand.a: fountain_check_read is in libstrand.a, the other five are in libcapi.a. The two have
+ * Link libcapi.a and libstrand.a: fountain_check_read is in libstrand.a, the other seven are in libcapi.a. The two have
  * no name in common, and together need nothing but memcpy and memset.
  *
  * Each function returns 0, or the number of the first of its questions that says no. They are asked in the order in which each
@@ -31,6 +32,8 @@ extern "C" {
  *   R            check bytes, 2 or 4
  *   m            longest run of one base allowed, 1 to 20, counted through the sites as below
  *   lo, hi       limits of C and G in thousandths of the strand's own n bases, lo <= hi <= 1000
+ *   dealt        whether the card has a fourth field, the width: 0 says no, any other byte yes
+ *   width        W, by which the file is dealt, 2 to F; ignored if dealt is 0
  *   weights      the degree weights: four bytes each, most significant first (a card has them from its byte 20 on)
  *   weights_len  how many bytes these are, 4 * D
  *
@@ -39,6 +42,11 @@ extern "C" {
  *    2  F, L or R out of range, or more than 131,072 segments
  *    3  m, lo or hi out of range
  *    4  weights not a multiple of 4 bytes, none, more than 1,024 or than there are segments, or their sum 0 or over 32 bits
+ *   27  dealt is not 0, and width is below 2 or above F (so that a file of one byte has no width)
+ *
+ * A card with a width is for a file that is dealt before it is cut into segments, so that a long stretch of zeros is spread over
+ * many of them. fountain_deal deals it; the writer is handed the dealt file, the restorer gives back the dealt file with marks by
+ * dealt segment, and fountain_undeal makes the file of it again.
  *
  * The order that goes to synthesis has an annealing site on each side of a strand: GTTTCAGAGTTCTACAGTCCGACGATC before it and
  * TGGAATTCTCGGGTGCCAAGG after it. A run of one base counts, with its whole length in the order, if at least one of its bases is
@@ -51,35 +59,73 @@ extern "C" {
 /* Reads a pool card.
  *
  *   card, card_len    the bytes of the card
- *   answer            lent for seven numbers: F, L, R, m, lo, hi and D, in this order
+ *   answer            lent for nine numbers: F, L, R, m, lo, hi, D, dealt (1 if the card has a width, else 0) and W (0 if it has
+ *                     none), in this order
  *
  * Returns 0 if the card is accepted, and fills answer; its weights are the 4 * D bytes from card + 20 on. Otherwise:
  *
- *    1  not three whole fields of tags 1, 2 and 3 and lengths 6, 5 and a multiple of 4, or something after them
- *    2, 3, 4  as above */
-uint32_t fountain_read_card(const uint8_t *card, size_t card_len, uint64_t answer[7]);
+ *    1  not three whole fields of tags 1, 2 and 3 and lengths 6, 5 and a multiple of 4, and behind them nothing or a whole fourth
+ *       of tag 4 and length 4
+ *    2, 3, 4, 27  as above */
+uint32_t fountain_read_card(const uint8_t *card, size_t card_len, uint64_t answer[9]);
 
 /* Cuts a pool card: writes its bytes from its numbers and weights.
  *
  *   F .. weights_len  as above
- *   out, out_len      lent for the card, at least 20 + weights_len bytes (no card has more than 4,116)
- *   answer            lent for one number: the card's length in bytes, 20 + weights_len
+ *   out, out_len      lent for the card, at least 20 + weights_len bytes, or 27 + weights_len if dealt is not 0 (no card has more
+ *                     than 4,123)
+ *   answer            lent for one number: the card's length in bytes, 20 + weights_len, or 27 + weights_len if dealt is not 0
  *
- * Returns 0 and fills answer. The card is then the first answer[0] bytes of out, and those past it are as they were.
- * fountain_read_card, handed the card, accepts it and gives these numbers; and a card that it accepts, cut again from its
- * numbers and weights, is the same bytes. Otherwise:
+ * Returns 0 and fills answer. The card is then the first answer[0] bytes of out, and those past it are as they were. It has a
+ * width just if dealt is not 0. fountain_read_card, handed the card, accepts it and gives these numbers, but W 0 if dealt is 0; and
+ * a card that it accepts, cut again from its numbers and weights, is the same bytes. Otherwise:
  *
- *    2, 3, 4  as above
- *   19  out is shorter than the card */
-uint32_t fountain_cut_card(uint32_t F, uint8_t L, uint8_t R, uint8_t m, uint16_t lo, uint16_t hi,
+ *    2, 3, 4, 27  as above
+ *   19  out is shorter than the card that would be written */
+uint32_t fountain_cut_card(uint32_t F, uint8_t L, uint8_t R, uint8_t m, uint16_t lo, uint16_t hi, uint8_t dealt, uint32_t width,
                            const uint8_t *weights, size_t weights_len,
                            uint8_t *out, size_t out_len,
                            uint64_t answer[1]);
 
+/* Deals a file: puts first all of its bytes whose place modulo W is 0, in order, then those with 1, and so on. Without a width it
+ * copies them as they are.
+ *
+ *   F .. weights_len    as above
+ *   source, source_len  the file, at least F bytes, of which those past F are not looked at
+ *   target, target_len  lent for the dealt file, at least F bytes
+ *
+ * For example, the file 00 01 02 03 04 05 06 (F 7) with W 3 is dealt as 00 03 06 01 04 02 05.
+ *
+ * Returns 0. The first F bytes of target are then those of the dealt file, and its bytes past these are as they were. Otherwise:
+ *
+ *    2, 3, 4, 27  as above
+ *   28  source or target is shorter than F bytes */
+uint32_t fountain_deal(uint32_t F, uint8_t L, uint8_t R, uint8_t m, uint16_t lo, uint16_t hi, uint8_t dealt, uint32_t width,
+                       const uint8_t *weights, size_t weights_len,
+                       const uint8_t *source, size_t source_len,
+                       uint8_t *target, size_t target_len);
+
+/* The inverse of dealing: makes a file again of the dealt file that the restorer gave back. Without a width it copies the bytes as
+ * they are.
+ *
+ *   F .. weights_len    as above
+ *   source, source_len  the dealt file, at least F bytes, of which those past F are not looked at (a restorer's file has K * L)
+ *   target, target_len  lent for the file, at least F bytes
+ *
+ * Returns 0. The first F bytes of target are then those of the file that fountain_deal, handed the same numbers and weights, deals
+ * as the first F bytes of source, and its bytes past these are as they were. Otherwise:
+ *
+ *    2, 3, 4, 27  as above
+ *   28  source or target is shorter than F bytes */
+uint32_t fountain_undeal(uint32_t F, uint8_t L, uint8_t R, uint8_t m, uint16_t lo, uint16_t hi, uint8_t dealt, uint32_t width,
+                         const uint8_t *weights, size_t weights_len,
+                         const uint8_t *source, size_t source_len,
+                         uint8_t *target, size_t target_len);
+
 /* Writes strands of a file.
  *
  *   F .. weights_len  as above
- *   file, file_len    the file, F bytes
+ *   file, file_len    the file, F bytes; the dealt one if the card has a width
  *   start             the first seed to try, not 0
  *   wanted            how many strands to make, at most 1,000,000
  *   budget            how many seeds to try at most
@@ -101,12 +147,12 @@ uint32_t fountain_cut_card(uint32_t F, uint8_t L, uint8_t R, uint8_t m, uint16_t
  * Returns 0 and fills answer. The first made * (n + 1) bytes of out then hold the strands, and its bytes past these are as they
  * were. The first D places of list hold anything, those past D are as they were. Otherwise:
  *
- *    2, 3, 4  as above
+ *    2, 3, 4, 27  as above
  *    5  file_len is not F
  *    6  start is 0
  *    7  wanted is over 1,000,000, or out is shorter than wanted * (n + 1) bytes
  *    8  list has fewer than D places */
-uint32_t fountain_write(uint32_t F, uint8_t L, uint8_t R, uint8_t m, uint16_t lo, uint16_t hi,
+uint32_t fountain_write(uint32_t F, uint8_t L, uint8_t R, uint8_t m, uint16_t lo, uint16_t hi, uint8_t dealt, uint32_t width,
                         const uint8_t *weights, size_t weights_len,
                         const uint8_t *file, size_t file_len,
                         uint32_t start, uint32_t wanted, uint32_t budget,
@@ -123,14 +169,14 @@ uint32_t fountain_write(uint32_t F, uint8_t L, uint8_t R, uint8_t m, uint16_t lo
  * Returns 0 if the read is accepted: the first 4 + L bytes of out then hold the seed (four bytes, most significant first) and
  * the L payload bytes, and its bytes past these are as they were. Otherwise:
  *
- *    2, 3, 4  as above
+ *    2, 3, 4, 27  as above
  *    9  the read does not have the strand length
  *   10  a letter that is none of A, C, G, T (N and small letters are none)
  *   11  the check sums are not all 0
  *   12  the seed is 0
  *   13  the screen is not passed: a run longer than m, counted through the sites, or C and G outside lo and hi
  *   16  the read is accepted, but out is shorter than 4 + L bytes */
-uint32_t fountain_check_read(uint32_t F, uint8_t L, uint8_t R, uint8_t m, uint16_t lo, uint16_t hi,
+uint32_t fountain_check_read(uint32_t F, uint8_t L, uint8_t R, uint8_t m, uint16_t lo, uint16_t hi, uint8_t dealt, uint32_t width,
                              const uint8_t *weights, size_t weights_len,
                              const uint8_t *read, size_t read_len,
                              uint8_t *out, size_t out_len);
@@ -147,12 +193,12 @@ uint32_t fountain_check_read(uint32_t F, uint8_t L, uint8_t R, uint8_t m, uint16
  * Returns 0 and fills answer. If the read was accepted, the 4 + L bytes of store from count * (4 + L) on hold its record, and
  * all others are as they were; if it was a repeat, all are. Otherwise (the next call is handed the same count):
  *
- *    2, 3, 4  as above
+ *    2, 3, 4, 27  as above
  *   14  count * (4 + L) is more than store_len
  *    9 to 13  as of fountain_check_read
  *   15  the first record of this seed has another payload
  *   16  the seed is new, and there is no space for its record */
-uint32_t fountain_store(uint32_t F, uint8_t L, uint8_t R, uint8_t m, uint16_t lo, uint16_t hi,
+uint32_t fountain_store(uint32_t F, uint8_t L, uint8_t R, uint8_t m, uint16_t lo, uint16_t hi, uint8_t dealt, uint32_t width,
                         const uint8_t *weights, size_t weights_len,
                         uint8_t *store, size_t store_len, size_t count,
                         const uint8_t *read, size_t read_len,
@@ -163,7 +209,7 @@ uint32_t fountain_store(uint32_t F, uint8_t L, uint8_t R, uint8_t m, uint16_t lo
  *   F .. weights_len  as above
  *   store, store_len  the store, of which nothing is written
  *   count             how many records it holds
- *   file, file_len    lent for the segments, at least K * L bytes
+ *   file, file_len    lent for the segments, at least K * L bytes; those of the dealt file if the card has a width
  *   marks, marks_len  lent for the marks, at least K bytes
  *   list, list_len    lent as scratch memory, at least D places
  *   answer            lent for three numbers: the segments present (marks that are 1), sweeps, and contradictions (records whose
@@ -173,12 +219,12 @@ uint32_t fountain_store(uint32_t F, uint8_t L, uint8_t R, uint8_t m, uint16_t lo
  * marks[i] and these bytes are 0. The bytes of file past K * L and of marks past K are as they were. The first D places of list
  * hold anything, those past D are as they were. Otherwise:
  *
- *    2, 3, 4  as above
+ *    2, 3, 4, 27  as above
  *   14  count * (4 + L) is more than store_len
  *   17  a record of the store has seed 0
  *   18  file is shorter than K * L bytes, or marks than K
  *    8  list has fewer than D places */
-uint32_t fountain_restore(uint32_t F, uint8_t L, uint8_t R, uint8_t m, uint16_t lo, uint16_t hi,
+uint32_t fountain_restore(uint32_t F, uint8_t L, uint8_t R, uint8_t m, uint16_t lo, uint16_t hi, uint8_t dealt, uint32_t width,
                           const uint8_t *weights, size_t weights_len,
                           const uint8_t *store, size_t store_len, size_t count,
                           uint8_t *file, size_t file_len,

@@ -9,6 +9,8 @@ extern "C" {
         m: u8,
         lo: u16,
         hi: u16,
+        dealt: u8,
+        width: u32,
         weights: *const u8,
         weights_len: usize,
         read: *const u8,
@@ -23,6 +25,8 @@ extern "C" {
         m: u8,
         lo: u16,
         hi: u16,
+        dealt: u8,
+        width: u32,
         weights: *const u8,
         weights_len: usize,
         file: *const u8,
@@ -43,6 +47,8 @@ extern "C" {
         m: u8,
         lo: u16,
         hi: u16,
+        dealt: u8,
+        width: u32,
         weights: *const u8,
         weights_len: usize,
         store: *mut u8,
@@ -59,6 +65,8 @@ extern "C" {
         m: u8,
         lo: u16,
         hi: u16,
+        dealt: u8,
+        width: u32,
         weights: *const u8,
         weights_len: usize,
         store: *const u8,
@@ -71,6 +79,38 @@ extern "C" {
         list: *mut u32,
         list_len: usize,
         answer: *mut u64,
+    ) -> u32;
+    fn fountain_deal(
+        f: u32,
+        l: u8,
+        r: u8,
+        m: u8,
+        lo: u16,
+        hi: u16,
+        dealt: u8,
+        width: u32,
+        weights: *const u8,
+        weights_len: usize,
+        source: *const u8,
+        source_len: usize,
+        target: *mut u8,
+        target_len: usize,
+    ) -> u32;
+    fn fountain_undeal(
+        f: u32,
+        l: u8,
+        r: u8,
+        m: u8,
+        lo: u16,
+        hi: u16,
+        dealt: u8,
+        width: u32,
+        weights: *const u8,
+        weights_len: usize,
+        source: *const u8,
+        source_len: usize,
+        target: *mut u8,
+        target_len: usize,
     ) -> u32;
 }
 
@@ -85,6 +125,8 @@ pub fn check_read(c: Card, weights: &[u8], read: &[u8], out: &mut [u8]) -> u32 {
             c.m,
             c.lo,
             c.hi,
+            c.dealt,
+            c.width,
             w,
             wn,
             read.as_ptr(),
@@ -114,7 +156,8 @@ pub fn write(
     let a = answer.as_mut_ptr();
     unsafe {
         fountain_write(
-            c.f, c.l, c.r, c.m, c.lo, c.hi, w, wn, f, fl, start, wanted, budget, o, on, i, il, a,
+            c.f, c.l, c.r, c.m, c.lo, c.hi, c.dealt, c.width, w, wn, f, fl, start, wanted, budget,
+            o, on, i, il, a,
         )
     }
 }
@@ -138,6 +181,8 @@ pub fn store(
             c.m,
             c.lo,
             c.hi,
+            c.dealt,
+            c.width,
             w,
             wn,
             s,
@@ -169,7 +214,30 @@ pub fn restore(
     let a = answer.as_mut_ptr();
     unsafe {
         fountain_restore(
-            c.f, c.l, c.r, c.m, c.lo, c.hi, w, wn, s, sn, count, f, fl, m, ml, i, il, a,
+            c.f, c.l, c.r, c.m, c.lo, c.hi, c.dealt, c.width, w, wn, s, sn, count, f, fl, m, ml, i,
+            il, a,
+        )
+    }
+}
+
+pub fn deal(c: Card, weights: &[u8], source: &[u8], target: &mut [u8]) -> u32 {
+    let (w, wn) = (weights.as_ptr(), weights.len());
+    let (s, sn) = (source.as_ptr(), source.len());
+    let (t, tn) = (target.as_mut_ptr(), target.len());
+    unsafe {
+        fountain_deal(
+            c.f, c.l, c.r, c.m, c.lo, c.hi, c.dealt, c.width, w, wn, s, sn, t, tn,
+        )
+    }
+}
+
+pub fn undeal(c: Card, weights: &[u8], source: &[u8], target: &mut [u8]) -> u32 {
+    let (w, wn) = (weights.as_ptr(), weights.len());
+    let (s, sn) = (source.as_ptr(), source.len());
+    let (t, tn) = (target.as_mut_ptr(), target.len());
+    unsafe {
+        fountain_undeal(
+            c.f, c.l, c.r, c.m, c.lo, c.hi, c.dealt, c.width, w, wn, s, sn, t, tn,
         )
     }
 }

@@ -1,4 +1,5 @@
-//! The proved archives beside a tuned implementation in Rust: document 001's job, the limits job, and how each phase grows with K.
+//! The proved archives beside a tuned implementation in Rust: document 001's job, the limits job, dealing by four widths, and how each
+//! phase of the jobs grows with K.
 //! Both sides are handed the same buffers, and every answer and every byte that they leave is compared before a time is printed.
 mod archive;
 mod tuned;
@@ -368,6 +369,43 @@ fn run(job: &Job) -> Vec<Line> {
     lines
 }
 
+/// Dealing and undealing of the largest file, by one width.
+fn deal(width: u32) -> Vec<Line> {
+    let card = Card {
+        dealt: 1,
+        width,
+        ..job("", 8_388_608, 64, 2, 0, 0, 0, 0).card
+    };
+    let f = card.f as usize;
+    let weights = soliton(f.div_ceil(card.l as usize), 1024);
+    let mut random = Random(88_172_645_463_325_252);
+    let file: Vec<u8> = (0..f).map(|_| random.next() as u8).collect();
+    let (mut dealt_a, mut dealt_b) = (vec![0xAA; f + 3], vec![0xAA; f + 3]);
+    let (mut back_a, mut back_b) = (vec![0xBB; f + 3], vec![0xBB; f + 3]);
+    let dealt = race(
+        20,
+        || assert_eq!(archive::deal(card, &weights, &file, &mut dealt_a), 0),
+        || assert_eq!(tuned::deal(card, &weights, &file, &mut dealt_b), 0),
+    );
+    let back = race(
+        20,
+        || assert_eq!(archive::undeal(card, &weights, &dealt_a, &mut back_a), 0),
+        || assert_eq!(tuned::undeal(card, &weights, &dealt_b, &mut back_b), 0),
+    );
+    assert!(
+        dealt_a == dealt_b && back_a == back_b,
+        "the dealt files differ"
+    );
+    assert!(back_a[..f] == file[..], "the file did not come back");
+    let line = |phase, (proved, rust)| Line {
+        phase,
+        what: format!("W {width}"),
+        proved,
+        rust,
+    };
+    vec![line("deal", dealt), line("undeal", back)]
+}
+
 fn machine() -> String {
     let info = std::fs::read_to_string("/proc/cpuinfo").unwrap_or_default();
     let name = info
@@ -400,6 +438,8 @@ fn job(
         m: 3,
         lo: 450,
         hi: 550,
+        dealt: 0,
+        width: 0,
     };
     Job {
         name: name.to_string(),
@@ -409,6 +449,24 @@ fn job(
         shelved_first,
         rounds: 3,
         shelvings,
+    }
+}
+
+fn print_table(name: &str, lines: &[Line]) {
+    println!("\n{name}");
+    println!(
+        "{:8} {:>10} {:>10} {:>6}  of",
+        "phase", "proved", "rust", "ratio"
+    );
+    for line in lines {
+        println!(
+            "{:8} {:>10.4} {:>10.4} {:>6.2}  {}",
+            line.phase,
+            line.proved,
+            line.rust,
+            line.rust / line.proved,
+            line.what
+        );
     }
 }
 
@@ -429,21 +487,12 @@ fn main() {
         jobs.push(job(&name, 8_388_608, 64, r, 140_000, 20_000, 139_000, 2));
     }
     for job in &jobs {
-        println!("\n{}", job.name);
-        println!(
-            "{:8} {:>10} {:>10} {:>6}  of",
-            "phase", "proved", "rust", "ratio"
-        );
-        for line in run(job) {
-            println!(
-                "{:8} {:>10.4} {:>10.4} {:>6.2}  {}",
-                line.phase,
-                line.proved,
-                line.rust,
-                line.rust / line.proved,
-                line.what
-            );
-        }
+        print_table(&job.name, &run(job));
+    }
+    if wanted("dealing") {
+        let widths = [2, 64, 4_096, 8_388_608 / 2];
+        let lines: Vec<Line> = widths.into_iter().flat_map(deal).collect();
+        print_table("dealing: 8,388,608 bytes", &lines);
     }
     if wanted("growth") {
         println!("\ngrowth with K (L 32; 9/8 K strands, all on the shelf but 1,000; 4,000 reads), proved, microseconds a strand, read, read and record");

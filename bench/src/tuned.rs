@@ -1,4 +1,4 @@
-//! Documents 01 and 02 (Items 1 and 12) in Rust, tuned for speed, behind the same interface as the proved archives: the same buffers, the
+//! Documents 01 and 02 (Items 1, 12 and 14) in Rust, tuned for speed, behind the same interface as the proved archives: the same buffers, the
 //! same checks in each call, no memory of its own between calls and no allocation. It is tuned where plain code would be unfair:
 //! letters, C and G, doubling and parity by tables that are computed when it is compiled, and a bitmap for large sets.
 
@@ -10,6 +10,8 @@ pub struct Card {
     pub m: u8,
     pub lo: u16,
     pub hi: u16,
+    pub dealt: u8,
+    pub width: u32,
 }
 
 const fn double(x: u8) -> u8 {
@@ -135,6 +137,9 @@ fn plan_of(card: &Card, weights: &[u8]) -> Result<Plan, u32> {
     }
     if sum < 1 || sum > u32::MAX as u64 {
         return Err(4);
+    }
+    if card.dealt != 0 && (card.width < 2 || card.width > card.f) {
+        return Err(27);
     }
     Ok(Plan {
         k,
@@ -573,4 +578,107 @@ pub fn restore(
     }
     *answer = [present, sweeps, contradictions];
     0
+}
+
+/// Copies `count` bytes that stand `from_step` apart to places that are `to_step` apart.
+#[inline(always)]
+fn copy_strided(
+    count: usize,
+    (to, to_step, target): (usize, usize, &mut [u8]),
+    (from, from_step, source): (usize, usize, &[u8]),
+) {
+    if count == 0 {
+        return;
+    }
+    assert!(to + (count - 1) * to_step < target.len());
+    assert!(from + (count - 1) * from_step < source.len());
+    let (mut t, mut s) = (to, from);
+    for _ in 0..count {
+        // The last places of both are within their slices, as was just asserted, and so are those before them.
+        unsafe { *target.get_unchecked_mut(t) = *source.get_unchecked(s) };
+        t += to_step;
+        s += from_step;
+    }
+}
+
+/// Bytes that stand from `i` on in the file and from `at` on in the dealt file, dealt or put back.
+#[inline(always)]
+fn move_strided<const BACK: bool>(
+    count: usize,
+    (i, i_step): (usize, usize),
+    (at, at_step): (usize, usize),
+    source: &[u8],
+    target: &mut [u8],
+) {
+    if BACK {
+        copy_strided(count, (i, i_step, target), (at, at_step, source));
+    } else {
+        copy_strided(count, (at, at_step, target), (i, i_step, source));
+    }
+}
+
+/// One line of a file, in order: the columns that the last, short line reaches are a byte longer than the others.
+fn move_line<const BACK: bool>(
+    (w, n): (usize, usize),
+    line: usize,
+    columns: usize,
+    source: &[u8],
+    target: &mut [u8],
+) {
+    let (whole, i) = (n / w, line * w);
+    let longer = columns.min(n % w);
+    move_strided::<BACK>(longer, (i, 1), (line, whole + 1), source, target);
+    let at = longer * (whole + 1) + line;
+    move_strided::<BACK>(
+        columns - longer,
+        (i + longer, 1),
+        (at, whole),
+        source,
+        target,
+    );
+}
+
+/// Bands of so few lines that what stands beside a column's bytes is still in the cache when the next column takes it; where there are
+/// fewer than eight lines, line by line.
+fn move_file<const BACK: bool>(w: usize, n: usize, source: &[u8], target: &mut [u8]) {
+    let (whole, more) = (n / w, n % w);
+    if whole < 8 {
+        for line in 0..whole {
+            move_line::<BACK>((w, n), line, w, source, target);
+        }
+    } else {
+        let most = if w < 1024 { 8192 / w } else { 8 };
+        for line in (0..whole).step_by(most) {
+            let lines = most.min(whole - line);
+            for r in 0..w {
+                let at = r * whole + r.min(more) + line;
+                move_strided::<BACK>(lines, (line * w + r, w), (at, 1), source, target);
+            }
+        }
+    }
+    move_line::<BACK>((w, n), whole, more, source, target);
+}
+
+fn reorder<const BACK: bool>(card: Card, weights: &[u8], source: &[u8], target: &mut [u8]) -> u32 {
+    if let Err(n) = plan_of(&card, weights) {
+        return n;
+    }
+    let n = card.f as usize;
+    if source.len() < n || target.len() < n {
+        return 28;
+    }
+    if card.dealt == 0 {
+        target[..n].copy_from_slice(&source[..n]);
+    } else {
+        move_file::<BACK>(card.width as usize, n, source, target);
+    }
+    0
+}
+
+pub fn deal(card: Card, weights: &[u8], source: &[u8], target: &mut [u8]) -> u32 {
+    reorder::<false>(card, weights, source, target)
+}
+
+pub fn undeal(card: Card, weights: &[u8], source: &[u8], target: &mut [u8]) -> u32 {
+    reorder::<true>(card, weights, source, target)
 }

@@ -1,5 +1,5 @@
 //! Item 2 of document 02, "A card cutter", with the fields of section "Pool
-//! card".
+//! card" and the fourth of Item 14, "Dealing before cutting".
 
 use crate::pool_card::Handed;
 use crate::questions::{ask, question_19, Refusal};
@@ -7,8 +7,10 @@ use crate::questions::{ask, question_19, Refusal};
 /// Document 02: "Please write a card from its numbers and plan into a lent
 /// buffer." and "Questions 2 to 4 come first, and a buffer too short for the
 /// card is then refused as 19. The answer is the card's length in bytes."
+///
+/// Item 14 puts question 27 "right after question 4 in every call", so before 19.
 pub fn cut_card(handed: &Handed, buffer: &mut [u8]) -> Result<usize, Refusal> {
-    handed.questions_2_to_4()?;
+    handed.card_questions()?;
     let card = card_of(handed);
     ask(question_19(buffer.len(), card.len()), 19)?;
 
@@ -17,13 +19,18 @@ pub fn cut_card(handed: &Handed, buffer: &mut [u8]) -> Result<usize, Refusal> {
     Ok(card.len())
 }
 
-/// "A card is three fields, in this order". Needs an accepted card.
+/// "A card is three fields, in this order", and document 02, Item 14: "A card may
+/// carry a fourth field, tag 4, length 4: the width W." Without the field "the
+/// cutter omits it", whatever W is handed. Needs an accepted card.
 pub fn card_of(handed: &Handed) -> Vec<u8> {
-    let fields = [
+    let mut fields = vec![
         field(1, &sizes(handed)),
         field(2, &limits(handed)),
         field(3, handed.weights),
     ];
+    if handed.dealt {
+        fields.push(field(4, &handed.width.to_be_bytes()));
+    }
     fields.concat()
 }
 
@@ -79,6 +86,8 @@ mod tests {
         m: 15,
         lo: 214,
         hi: 1000,
+        dealt: false,
+        width: 0,
         weights: &P_WEIGHTS,
     };
 
@@ -90,6 +99,8 @@ mod tests {
         m: 1,
         lo: 0,
         hi: 0,
+        dealt: false,
+        width: 0,
         weights: &[0, 0, 0, 1],
     };
     const LEAST_CARD: [u8; 24] = [
@@ -110,6 +121,8 @@ mod tests {
         m: 17,
         lo: 291,
         hi: 837,
+        dealt: false,
+        width: 0,
         weights: &UNLIKE_WEIGHTS,
     };
     const UNLIKE_CARD: [u8; 32] = [
@@ -139,13 +152,16 @@ mod tests {
             m: 20,
             lo: 1000,
             hi: 1000,
+            dealt: false,
+            width: 0,
             weights,
         }
     }
 
-    /// The card in a buffer of just its length.
+    /// The card in a buffer of just its length, 7 bytes more with the fourth field.
     fn cut(handed: &Handed) -> Vec<u8> {
-        let mut buffer = vec![0x99; WEIGHTS_START + handed.weights.len()];
+        let fourth = if handed.dealt { 7 } else { 0 };
+        let mut buffer = vec![0x99; WEIGHTS_START + handed.weights.len() + fourth];
         assert_eq!(cut_card(handed, &mut buffer), Ok(buffer.len()));
         buffer
     }
@@ -153,17 +169,9 @@ mod tests {
     /// The numbers of an accepted card, and its weights from byte 20 on.
     fn numbers_of(card: &[u8]) -> Handed<'_> {
         let numbers = read_card(card).unwrap();
-        let weights = &card[WEIGHTS_START..];
-        assert_eq!(weights.len(), 4 * numbers.d);
-        Handed {
-            f: numbers.f,
-            l: numbers.l,
-            r: numbers.r,
-            m: numbers.m,
-            lo: numbers.lo,
-            hi: numbers.hi,
-            weights,
-        }
+        let fourth = if numbers.dealt { 7 } else { 0 };
+        assert_eq!(card.len(), WEIGHTS_START + 4 * numbers.d + fourth);
+        numbers.handed(card)
     }
 
     #[test]
@@ -312,7 +320,9 @@ mod tests {
                 m: 17,
                 lo: 291,
                 hi: 837,
-                d: 3
+                d: 3,
+                dealt: false,
+                width: 0
             })
         );
         let plans = [plan(1), plan(63), plan(64), plan(256), plan(1024)];
@@ -352,5 +362,106 @@ mod tests {
             }
         }
         assert_eq!(accepted, 509 + 2 + 1 + 19 + 258 + 235 + 8 * 255);
+    }
+
+    /// W = 1,122,867 is hex 00112233.
+    const UNLIKE_DEALT: Handed = Handed {
+        dealt: true,
+        width: 1_122_867,
+        ..UNLIKE
+    };
+    const FOURTH: [u8; 7] = [0x04, 0x00, 0x04, 0x00, 0x11, 0x22, 0x33];
+
+    /// Document 02, Item 14: "A card may carry a fourth field, tag 4, length 4: the
+    /// width W."
+    #[test]
+    fn fourth_field() {
+        let mut buffer = [0x99; 41];
+        assert_eq!(cut_card(&UNLIKE_DEALT, &mut buffer), Ok(39));
+        assert_eq!(buffer[..32], UNLIKE_CARD);
+        assert_eq!(buffer[32..39], FOURTH);
+        assert_eq!(buffer[39..], [0x99; 2]);
+
+        let weights = plan(1024);
+        let longest = Handed {
+            dealt: true,
+            width: 8_388_608,
+            ..most(&weights)
+        };
+        let mut buffer = [0x99; 4123];
+        assert_eq!(cut_card(&longest, &mut buffer), Ok(4123));
+        assert_eq!(buffer[..20], MOST_HEAD);
+        assert_eq!(buffer[20..4116], weights);
+        assert_eq!(buffer[4116..], [4, 0, 4, 0x00, 0x80, 0x00, 0x00]);
+    }
+
+    /// "Without it any W handed is ignored: .. the cutter omits it, so that card
+    /// reads back with W 0."
+    #[test]
+    fn width_without_the_field() {
+        for width in [0, 1, 2, 4, 5, u32::MAX] {
+            let handed = Handed { width, ..P };
+            let mut buffer = [0x99; 35];
+            assert_eq!(cut_card(&handed, &mut buffer), Ok(28), "{width}");
+            assert_eq!(buffer[..28], CARD_P, "{width}");
+            assert_eq!(buffer[28..], [0x99; 7], "{width}");
+            let back = read_card(&buffer[..28]).unwrap();
+            assert_eq!((back.dealt, back.width), (false, 0), "{width}");
+        }
+    }
+
+    /// Question 19 is about the card that would be written: with the field 35
+    /// bytes for card P, and 28 are too few.
+    #[test]
+    fn question_19_with_the_field() {
+        let handed = Handed {
+            dealt: true,
+            width: 2,
+            ..P
+        };
+        for length in [0, 27, 28, 29, 34] {
+            let mut buffer = vec![0x99; length];
+            assert_eq!(cut_card(&handed, &mut buffer), Err(Refusal(19)), "{length}");
+            assert_eq!(buffer, vec![0x99; length]);
+        }
+        assert_eq!(cut_card(&handed, &mut [0x99; 35]), Ok(35));
+    }
+
+    /// 27 comes after 4 and before 19.
+    #[test]
+    fn question_27_in_its_order() {
+        for width in [0, 1, 5, u32::MAX] {
+            let wrong_27 = Handed {
+                dealt: true,
+                width,
+                ..P
+            };
+            let wrong_4_27 = Handed {
+                weights: &[0; 8],
+                ..wrong_27
+            };
+            for length in [0, 28, 34, 35, 40] {
+                let mut buffer = vec![0x99; length];
+                assert_eq!(cut_card(&wrong_27, &mut buffer), Err(Refusal(27)));
+                assert_eq!(cut_card(&wrong_4_27, &mut buffer), Err(Refusal(4)));
+                assert_eq!(buffer, vec![0x99; length]);
+            }
+        }
+    }
+
+    /// Both round trips of Item 2, with the field.
+    #[test]
+    fn dealt_cards_and_their_numbers_come_back() {
+        let two = Handed {
+            dealt: true,
+            width: 2,
+            ..P
+        };
+        let four = Handed { width: 4, ..two };
+        for handed in [two, four, UNLIKE_DEALT] {
+            assert_eq!(numbers_of(&cut(&handed)), handed);
+        }
+        let card = [&UNLIKE_CARD[..], &FOURTH].concat();
+        assert_eq!(cut(&numbers_of(&card)), card);
     }
 }

@@ -316,7 +316,7 @@ pub struct Droplet {
 /// Questions 9 to 13 in their order: "A string is a legal strand if questions 9
 /// to 13, as they are written below, all say yes of it."
 ///
-/// Needs questions 2 to 4 to have said yes.
+/// Needs questions 2 to 4 and 27 to have said yes.
 pub(crate) fn questions_9_to_13(handed: &Handed, read: &[u8]) -> Result<Droplet, Refusal> {
     ask(question_9(read.len(), handed.n_bases()), 9)?;
     ask(question_10(read), 10)?;
@@ -338,7 +338,7 @@ pub(crate) fn questions_9_to_13(handed: &Handed, read: &[u8]) -> Result<Droplet,
 /// "Read check: n letters? 9. All of A, C, G, T? 10. Check sums all 0? 11. Seed
 /// not 0? 12. Screen passed? 13."
 pub fn read_check(handed: &Handed, read: &[u8]) -> Result<Droplet, Refusal> {
-    handed.questions_2_to_4()?;
+    handed.card_questions()?;
     questions_9_to_13(handed, read)
 }
 
@@ -376,6 +376,8 @@ mod tests {
         m: 15,
         lo: 214,
         hi: 1000,
+        dealt: false,
+        width: 0,
         weights: &P_WEIGHTS,
     };
     const SEED_1: &[u8; 28] = b"AAAAAAAAAAAAAAACTGCAATCGTCAT";
@@ -922,6 +924,25 @@ mod tests {
             read_check(&Handed { weights: &[], ..P }, b""),
             Err(Refusal(4))
         );
+        // So does 27, after 4, and only if the fourth field is there.
+        let dealt = Handed { dealt: true, ..P };
+        for width in [0, 1, 5, u32::MAX] {
+            let wrong = Handed { width, ..dealt };
+            assert_eq!(read_check(&wrong, b""), Err(Refusal(27)));
+            assert_eq!(read_check(&wrong, SEED_1), Err(Refusal(27)));
+            assert_eq!(read_check_c_form(&wrong, SEED_1, &mut []), 27);
+            let no_weights = Handed {
+                weights: &[],
+                ..wrong
+            };
+            assert_eq!(read_check(&no_weights, b""), Err(Refusal(4)));
+            assert_eq!(read_check(&Handed { width, ..P }, b""), Err(Refusal(9)));
+        }
+        for width in [2, 4] {
+            let fine = Handed { width, ..dealt };
+            assert_eq!(read_check(&fine, b""), Err(Refusal(9)));
+            assert_eq!(read_check(&fine, SEED_1), read_check(&P, SEED_1));
+        }
     }
 
     #[test]
@@ -970,6 +991,8 @@ mod tests {
             m: 20,
             lo: 0,
             hi: 1000,
+            dealt: false,
+            width: 0,
             weights: &[0, 0, 0, 1],
         };
         let payload: Vec<u8> = (0..64).map(|i| (i * 37 + 11) as u8).collect();

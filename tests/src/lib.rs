@@ -6,18 +6,19 @@
 //! document 02, and each function quotes the sentence it renders, of document 01
 //! where no other is named.
 //!
-//! Every public call (card reading, card cutting, read check, its C form,
-//! writing, shelving, restoring) takes slices and answers a struct, an enum or a
-//! number, or a `Refusal` holding the number of the first question answered
-//! "no". A refusal changes no buffer.
+//! Every public call (card reading, card cutting, dealing, undealing, read check,
+//! its C form, writing, shelving, restoring) takes slices and answers a struct, an
+//! enum, a number or nothing, or a `Refusal` holding the number of the first
+//! question answered "no". A refusal changes no buffer.
 //!
 //! The other functions are building blocks. Those that need an accepted card
-//! (questions 2 to 4 all "yes") say so.
+//! (questions 2 to 4 and 27 all "yes") say so.
 
 #![forbid(unsafe_code)]
 
 pub mod card_cutter;
 pub mod check_bytes_letters_screen;
+pub mod dealing;
 pub mod droplet;
 pub mod generator_and_seed_schedule;
 pub mod listing;
@@ -30,6 +31,7 @@ pub mod writer;
 
 pub use card_cutter::cut_card;
 pub use check_bytes_letters_screen::{read_check, read_check_c_form, Droplet};
+pub use dealing::{deal, undeal};
 pub use generator_and_seed_schedule::{schedule_step, DrawState};
 pub use listing::listing;
 pub use pool_card::{read_card, Card, Handed};

@@ -1,6 +1,6 @@
 //! The listing program (described in section "Bench examples").
 
-use crate::pool_card::{k_of, read_card, Handed, WEIGHTS_START};
+use crate::pool_card::{k_of, read_card};
 use crate::questions::Refusal;
 use crate::restorer::restore;
 use crate::shelf::{shelve, Shelved};
@@ -41,15 +41,9 @@ pub fn listing(pool_card: Option<&[u8]>, standard_input: &[u8]) -> String {
         return "card too large\n".to_string();
     }
 
-    let handed = Handed {
-        f: card.f,
-        l: card.l,
-        r: card.r,
-        m: card.m,
-        lo: card.lo,
-        hi: card.hi,
-        weights: &card_bytes[WEIGHTS_START..],
-    };
+    // The sheet speaks of dealt segments, so that a fourth field on the card
+    // changes nothing of it.
+    let handed = card.handed(card_bytes);
 
     // "Its shelf is 65,536 bytes; reads past that are refused under 16."
     let mut shelf = vec![0; 65_536];
@@ -166,6 +160,31 @@ AAAN
         card[20] = 255;
         card[24] = 255;
         assert_eq!(listing(Some(&card), FIVE_LINES), "card 4\n");
+    }
+
+    /// Card P with a fourth field of this width.
+    fn p_dealt(width: u32) -> Vec<u8> {
+        let mut card = P.to_vec();
+        card.extend([4, 0, 4]);
+        card.extend(width.to_be_bytes());
+        card
+    }
+
+    /// Document 02, Item 14: a card with a legal W lists as the same card without
+    /// it, and one with another W is refused.
+    #[test]
+    fn cards_with_a_width() {
+        let expected = "reads 5 accepted 3 repeated 1 refused 1\n\
+                        segments 4 present 3 sweeps 3 contradictions 0\n";
+        for width in [2, 3, 4] {
+            assert_eq!(listing(Some(&p_dealt(width)), FIVE_LINES), expected);
+        }
+        for width in [0, 1, 5, u32::MAX] {
+            assert_eq!(listing(Some(&p_dealt(width)), FIVE_LINES), "card 27\n");
+        }
+        let mut longer = p_dealt(2);
+        longer.push(0);
+        assert_eq!(listing(Some(&longer), FIVE_LINES), "card 1\n");
     }
 
     fn card_with(f: u32, l: u8, d: usize) -> Vec<u8> {

@@ -20,7 +20,8 @@ pub(crate) fn ask(yes: bool, number: u8) -> Result<(), Refusal> {
     }
 }
 
-/// "Every other call has 2 to 4 first, then its own, in the order shown."
+/// "Every other call has 2 to 4 first, then its own, in the order shown." Between
+/// them document 02, Item 14, puts question 27.
 ///
 /// May be handed any values and any length of weights.
 pub fn questions_2_to_4(
@@ -148,6 +149,19 @@ pub fn question_19(buffer_length: usize, card_length: usize) -> bool {
     buffer_length >= card_length
 }
 
+/// Document 02, Item 14: "every call is handed both and checks W only if it is
+/// there. Without it any W handed is ignored" and "right after question 4 in every
+/// call, a W below 2 or above F is refused as 27"
+pub fn question_27(f: u32, dealt: bool, width: u32) -> bool {
+    !dealt || (2..=f).contains(&width)
+}
+
+/// Document 02, Item 14: "a source or target of fewer than F bytes comes next as
+/// 28"
+pub fn question_28(f: u32, source_length: usize, target_length: usize) -> bool {
+    source_length >= f as usize && target_length >= f as usize
+}
+
 #[cfg(test)]
 mod tests {
     use super::*;
@@ -258,6 +272,48 @@ mod tests {
         assert_eq!(two_to_four(0, 0, 0, 0, 1, 0, &[]), 2);
         assert_eq!(two_to_four(1, 1, 2, 0, 1, 0, &[]), 3);
         assert_eq!(two_to_four(1, 1, 2, 1, 0, 0, &[]), 4);
+    }
+
+    /// From 2 to F, if the field is there.
+    #[test]
+    fn question_27_edges() {
+        for (f, width, yes) in [
+            (4, 0, false),
+            (4, 1, false),
+            (4, 2, true),
+            (4, 4, true),
+            (4, 5, false),
+            (4, u32::MAX, false),
+            (2, 2, true),
+            (2, 1, false),
+            (2, 3, false),
+            (1, 0, false),
+            (1, 1, false),
+            (1, 2, false),
+            (8_388_608, 8_388_608, true),
+            (8_388_608, 8_388_609, false),
+        ] {
+            assert_eq!(question_27(f, true, width), yes, "{f} {width}");
+            assert!(question_27(f, false, width), "{f} {width}");
+        }
+    }
+
+    #[test]
+    fn question_28_edges() {
+        for (source, target, yes) in [
+            (4, 4, true),
+            (3, 4, false),
+            (4, 3, false),
+            (3, 3, false),
+            (5, 4, true),
+            (4, 5, true),
+            (5, 3, false),
+            (3, 5, false),
+            (0, 4, false),
+            (usize::MAX, usize::MAX, true),
+        ] {
+            assert_eq!(question_28(4, source, target), yes, "{source} {target}");
+        }
     }
 
     /// Largest numbers do not wrap.

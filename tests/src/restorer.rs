@@ -28,7 +28,7 @@ pub fn restore(
     marks: &mut [u8],
     number_list: &mut [u32],
 ) -> Result<Restored, Refusal> {
-    handed.questions_2_to_4()?;
+    handed.card_questions()?;
     ask(question_14(count, handed.record_bytes(), shelf.len()), 14)?;
     let records = records(shelf, count, handed.l);
     let seeds: Vec<u32> = records.iter().map(|&(seed, _)| seed).collect();
@@ -120,6 +120,8 @@ mod tests {
         m: 15,
         lo: 214,
         hi: 1000,
+        dealt: false,
+        width: 0,
         weights: &P_WEIGHTS,
     };
 
@@ -249,6 +251,21 @@ mod tests {
             3
         );
         assert_eq!(go(&Handed { weights: &[], ..P }, &seed_0, 3, 0, 0, 0), 4);
+        let dealt = Handed { dealt: true, ..P };
+        for width in [0, 1, 5, u32::MAX] {
+            assert_eq!(go(&Handed { width, ..dealt }, &seed_0, 3, 0, 0, 0), 27);
+            let no_weights = Handed {
+                width,
+                weights: &[],
+                ..dealt
+            };
+            assert_eq!(go(&no_weights, &seed_0, 3, 0, 0, 0), 4);
+            assert_eq!(go(&Handed { width, ..P }, &seed_0, 3, 0, 0, 0), 14);
+        }
+        for width in [2, 4] {
+            assert_eq!(go(&Handed { width, ..dealt }, &seed_0, 3, 0, 0, 0), 14);
+            assert_eq!(go(&Handed { width, ..dealt }, &good, 2, 4, 4, 2), 0);
+        }
         assert_eq!(go(&P, &seed_0, 3, 0, 0, 0), 14);
         assert_eq!(go(&P, &seed_0, usize::MAX, 0, 0, 0), 14);
         assert_eq!(go(&P, &seed_0, 2, 0, 0, 0), 17);
@@ -269,6 +286,8 @@ mod tests {
             m: 20,
             lo: 0,
             hi: 1000,
+            dealt: false,
+            width: 0,
             weights: &[0, 0, 0, 1],
         };
         let seed = (1..)
@@ -318,6 +337,8 @@ mod tests {
                 m: 20,
                 lo: 0,
                 hi: 1000,
+                dealt: false,
+                width: 0,
                 weights: &weights,
             };
             let true_file: Vec<u8> = (0..k).map(|_| next(256) as u8).collect();

@@ -35,7 +35,7 @@ pub fn shelve(
     shelf: &mut [u8],
     count: usize,
 ) -> Result<Shelved, Refusal> {
-    handed.questions_2_to_4()?;
+    handed.card_questions()?;
     let record_bytes = handed.record_bytes();
     ask(question_14(count, record_bytes, shelf.len()), 14)?;
     let droplet = questions_9_to_13(handed, read)?;
@@ -72,6 +72,8 @@ mod tests {
         m: 15,
         lo: 214,
         hi: 1000,
+        dealt: false,
+        width: 0,
         weights: &P_WEIGHTS,
     };
     const SEED_2: &[u8] = b"AAAAAAAAAAAAAAAGCGGCGTCCTCTG";
@@ -154,6 +156,24 @@ mod tests {
             ),
             4
         );
+        let dealt = Handed {
+            dealt: true,
+            ..loose
+        };
+        for width in [0, 1, 5, u32::MAX] {
+            assert_eq!(go(&Handed { width, ..dealt }, b"", 9), 27);
+            let no_weights = Handed {
+                width,
+                weights: &[],
+                ..dealt
+            };
+            assert_eq!(go(&no_weights, b"", 9), 4);
+            assert_eq!(go(&Handed { width, ..loose }, b"", 9), 14);
+        }
+        for width in [2, 4] {
+            assert_eq!(go(&Handed { width, ..dealt }, b"", 9), 14);
+            assert_eq!(go(&Handed { width, ..dealt }, SEED_1, 1), 0);
+        }
         assert_eq!(go(&loose, b"", 2), 14);
         assert_eq!(go(&loose, b"", usize::MAX), 14);
         assert_eq!(go(&loose, SEED_2, 2), 14);

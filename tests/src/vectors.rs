@@ -37,7 +37,10 @@ fn reed_solomon() -> String {
     text += &format!("01 R=2 check bytes {}\n", hex(&four(check_bytes(&[1], 2))));
     text += &format!("01 R=4 check bytes {}\n", hex(&four(check_bytes(&[1], 4))));
     let message = [0x12, 0x34, 0x56];
-    text += &format!("12 34 56 R=4 check bytes {}\n", hex(&check_bytes(&message, 4)));
+    text += &format!(
+        "12 34 56 R=4 check bytes {}\n",
+        hex(&check_bytes(&message, 4))
+    );
     let mut lost = bytes(WIKIVERSITY);
     lost[0] = 0;
     for (name, word) in [
@@ -61,11 +64,14 @@ fn bench_examples() -> String {
         m: 15,
         lo: 214,
         hi: 1000,
+        dealt: false,
+        width: 0,
         weights: &[0, 0, 0, 1, 0, 0, 0, 1],
     };
     let (mut file, mut marks, mut list) = ([255; 4], [255; 4], [0; 2]);
     let mut buffer = [255; 20];
-    let restored = restore(&card, &buffer, 0, &mut file, &mut marks, &mut list).expect("an empty shelf is restored");
+    let restored = restore(&card, &buffer, 0, &mut file, &mut marks, &mut list)
+        .expect("an empty shelf is restored");
     let mut text = format!(
         "empty shelf: present {} sweeps {} contradictions {}\n",
         restored.present, restored.sweeps, restored.contradictions

@@ -47,7 +47,7 @@ pub fn write(
     buffer: &mut [u8],
     number_list: &mut [u32],
 ) -> Result<Written, Refusal> {
-    handed.questions_2_to_4()?;
+    handed.card_questions()?;
     let n = handed.n_bases();
     ask(question_5(file.len(), handed.f), 5)?;
     ask(question_6(start), 6)?;
@@ -118,6 +118,8 @@ mod tests {
         m: 15,
         lo: 214,
         hi: 1000,
+        dealt: false,
+        width: 0,
         weights: &P_WEIGHTS,
     };
     const Q: [u8; 4] = [0x1B, 0x27, 0x4E, 0xE4];
@@ -257,6 +259,20 @@ mod tests {
             ),
             4
         );
+        let dealt = Handed { dealt: true, ..P };
+        for width in [0, 1, 5, u32::MAX] {
+            assert_eq!(go(&Handed { width, ..dealt }, &[], 0, 1, 0, 0), 27);
+            let no_weights = Handed {
+                width,
+                weights: &[],
+                ..dealt
+            };
+            assert_eq!(go(&no_weights, &[], 0, 1, 0, 0), 4);
+            assert_eq!(go(&Handed { width, ..P }, &Q[..3], 0, 1, 0, 0), 5);
+        }
+        for width in [2, 4] {
+            assert_eq!(go(&Handed { width, ..dealt }, &[], 0, 1, 0, 0), 5);
+        }
         assert_eq!(go(&P, &Q[..3], 0, 1, 0, 0), 5);
         assert_eq!(go(&P, &[0; 5], 0, 1, 0, 0), 5);
         assert_eq!(go(&P, &Q, 0, 1, 0, 0), 6);
@@ -287,6 +303,8 @@ mod tests {
                 m,
                 lo,
                 hi,
+                dealt: false,
+                width: 0,
                 weights: &weights,
             };
             let n = handed.n_bases();
@@ -570,6 +588,8 @@ mod tests {
                 m,
                 lo,
                 hi,
+                dealt: false,
+                width: 0,
                 weights: &weights,
             };
             let go = |start, wanted, budget| {

@@ -1,11 +1,11 @@
 //! Every bench example of document 01, over the public calls alone, in its
-//! order; then the examples of document 02, Item 1, and card P cut as in Item 2.
+//! order; then the examples of document 02, Item 1, card P cut as in Item 2, and
+//! with a fourth field as in Item 14.
 
 use second::check_bytes_letters_screen::{
     check_bytes, check_sums, count_gc, letters_of_bytes, longest_run, strand_bytes,
 };
 use second::droplet::{payload, set_of_segments};
-use second::pool_card::WEIGHTS_START;
 use second::*;
 
 fn hex(text: &str) -> Vec<u8> {
@@ -27,16 +27,7 @@ fn file_q() -> Vec<u8> {
 }
 
 fn handed(card: &[u8]) -> Handed<'_> {
-    let numbers = read_card(card).unwrap();
-    Handed {
-        f: numbers.f,
-        l: numbers.l,
-        r: numbers.r,
-        m: numbers.m,
-        lo: numbers.lo,
-        hi: numbers.hi,
-        weights: &card[WEIGHTS_START..],
-    }
+    read_card(card).unwrap().handed(card)
 }
 
 const FIVE_LINES: &str = "\
@@ -65,11 +56,14 @@ fn card() {
             m: 15,
             lo: 214,
             hi: 1000,
-            d: 2
+            d: 2,
+            dealt: false,
+            width: 0
         })
     );
     assert_eq!(handed(&card).k(), 4);
     assert_eq!(handed(&card).n_bases(), 28);
+    assert_eq!(handed(&card).weights, hex("00000001 00000001"));
 }
 
 /// "Seed 1 draws 632,806 then 68,359,563."
@@ -315,4 +309,71 @@ fn card_p_is_cut() {
     assert_eq!(buffer[..28], card);
     assert_eq!(buffer[28..], [0x3F; 2]);
     assert_eq!(cut_card(&p, &mut [0; 27]), Err(Refusal(19)));
+}
+
+/// Card P with W = 3, and its weights apart from the field. Document 02, Item 14:
+/// "A card may carry a fourth field, tag 4, length 4: the width W."
+#[test]
+fn card_p_with_a_width() {
+    let mut card = card_p();
+    card.extend(hex("04 0004 00000003"));
+    let p = handed(&card);
+    assert_eq!((p.dealt, p.width), (true, 3));
+    assert_eq!(p.weights, hex("00000001 00000001"));
+    let mut buffer = [0x3F; 36];
+    assert_eq!(cut_card(&p, &mut buffer), Ok(35));
+    assert_eq!(buffer[..35], card);
+    assert_eq!(buffer[35], 0x3F);
+    assert_eq!(cut_card(&p, &mut [0; 34]), Err(Refusal(19)));
+
+    // "Without it any W handed is ignored: .. the cutter omits it, so that card
+    // reads back with W 0."
+    let without = Handed { dealt: false, ..p };
+    assert_eq!(cut_card(&without, &mut buffer), Ok(28));
+    assert_eq!(buffer[..28], card_p());
+    assert_eq!(read_card(&card_p()).unwrap().width, 0);
+}
+
+/// File Q under card P with W = 3, 4 and 5: the places 0 3, 1, 2 of four, all of
+/// them in order, and "a W .. above F is refused as 27".
+#[test]
+fn file_q_is_dealt() {
+    let card = card_p();
+    let dealt = Handed {
+        dealt: true,
+        ..handed(&card)
+    };
+    for (width, expected) in [(2, "1B 4E 27 E4"), (3, "1B E4 27 4E"), (4, "1B 27 4E E4")] {
+        let p = Handed { width, ..dealt };
+        let mut target = [0x3F; 5];
+        assert_eq!(deal(&p, &file_q(), &mut target), Ok(()));
+        assert_eq!(target[..4], hex(expected));
+        assert_eq!(target[4], 0x3F);
+        let mut back = [0x3F; 4];
+        assert_eq!(undeal(&p, &target, &mut back), Ok(()));
+        assert_eq!(back.to_vec(), file_q());
+    }
+    for width in [0, 1, 5] {
+        let p = Handed { width, ..dealt };
+        assert_eq!(deal(&p, &file_q(), &mut [0; 4]), Err(Refusal(27)));
+        assert_eq!(undeal(&p, &file_q(), &mut [0; 4]), Err(Refusal(27)));
+    }
+}
+
+/// "The writer .. handed the dealt file": seed 1 picks segment 3 (a bench example),
+/// which after dealing by W = 3 is byte 4E of Q. The strand's seed and payload come
+/// back from the read check, whatever W is.
+#[test]
+fn seed_1_of_the_dealt_file() {
+    let mut card = card_p();
+    card[13..15].copy_from_slice(&[0, 0]); // lo
+    card.extend(hex("04 0004 00000003"));
+    let p = handed(&card);
+    let mut target = [0; 4];
+    deal(&p, &file_q(), &mut target).unwrap();
+    let mut line = [0; 29];
+    let written = write(&p, &target, 1, 1, 1, &mut line, &mut [0; 2]).unwrap();
+    assert_eq!(written.made, 1);
+    let droplet = read_check(&p, &line[..28]).unwrap();
+    assert_eq!((droplet.seed, droplet.payload[0]), (1, 0x4E));
 }

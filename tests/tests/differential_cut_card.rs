@@ -7,7 +7,8 @@ use differential::cards::{self, Numbers, D_MOST, F_MOST, K_MOST};
 use differential::lent::{hex, Lent};
 use differential::random::Random;
 use differential::run::{run, Regions};
-use second::questions::{question_2, question_3, question_4};
+use second::questions::{question_2, question_27, question_3, question_4};
+use second::Handed;
 
 #[cfg(capi_missing)]
 compile_error!("target/staticlib/libcapi.a is missing: `rt staticlib capi` makes it");
@@ -21,6 +22,8 @@ extern "C" {
         m: u8,
         lo: u16,
         hi: u16,
+        dealt: u8,
+        width: u32,
         weights: *const u8,
         weights_len: usize,
         out: *mut u8,
@@ -30,8 +33,9 @@ extern "C" {
     fn fountain_read_card(card: *const u8, card_len: usize, answer: *mut u64) -> u32;
 }
 
-/// The bytes of a card before its weights.
+/// The bytes of a card before its weights, and those of a fourth field behind them.
 const HEAD: usize = 20;
+const FOURTH: usize = 7;
 
 struct Case {
     numbers: Numbers,
@@ -57,7 +61,7 @@ impl Case {
         } else if random.once_in(500) {
             over_two_bytes(random, &mut numbers);
         }
-        let out_length = any_length(random, numbers.weights.len());
+        let out_length = any_length(random, &numbers);
         Case::in_buffer(random, numbers, out_length)
     }
 
@@ -70,7 +74,7 @@ impl Case {
     }
 
     fn card_length(&self) -> usize {
-        HEAD + self.numbers.weights.len()
+        card_length(&self.numbers)
     }
 
     fn expected(&self) -> After {
@@ -109,6 +113,8 @@ impl Case {
                 numbers.m,
                 numbers.lo,
                 numbers.hi,
+                numbers.dealt,
+                numbers.width,
                 weights.pointer(),
                 weights.len(),
                 out.pointer_mut(),
@@ -142,8 +148,8 @@ impl Case {
         Ok(out.items().to_vec())
     }
 
-    /// The card that the archive cut, read, gives the numbers and weights of the case, and these, cut by the archive again, the
-    /// same card.
+    /// The card that the archive cut, read, gives the numbers and weights of the case, but W 0 without the field, and these, cut by
+    /// the archive again, the same card.
     fn compare_read_and_cut(
         &self,
         random: &mut Random,
@@ -162,9 +168,15 @@ impl Case {
             m: read.m,
             lo: read.lo,
             hi: read.hi,
-            weights: card[HEAD..].to_vec(),
+            dealt: read.dealt.into(),
+            width: read.width,
+            weights: card[HEAD..HEAD + 4 * read.d].to_vec(),
         };
-        if read_back.handed() != self.numbers.handed() || read.d != self.numbers.d() {
+        let expected = Handed {
+            width: self.numbers.width_on_card(),
+            ..self.numbers.handed()
+        };
+        if read_back.handed() != expected || read.d != self.numbers.d() {
             return Err(report(format!(
                 "read, it gives D {} and {}",
                 read.d,
@@ -181,14 +193,14 @@ impl Case {
         Ok(())
     }
 
-    /// The archive's own card reader gives the numbers of the case and D.
+    /// The archive's own card reader gives the numbers of the case and D, whether the field is there as 1 or 0, and W or 0.
     fn compare_archive_read(&self, random: &mut Random, card: &[u8]) -> Result<(), String> {
         let Numbers {
             f, l, r, m, lo, hi, ..
         } = self.numbers;
         let lent = Lent::new(random, card);
-        let mut answer = Lent::new(random, &[0u64; 7]);
-        // The pointers stand for the card's bytes and for seven numbers.
+        let mut answer = Lent::new(random, &[0xA5u64; 9]);
+        // The pointers stand for the card's bytes and for nine numbers.
         let got = unsafe { fountain_read_card(lent.pointer(), lent.len(), answer.pointer_mut()) };
         if got != 0 {
             return Err(format!("refused as {got}"));
@@ -202,6 +214,8 @@ impl Case {
             lo.into(),
             hi.into(),
             d,
+            self.numbers.has_field().into(),
+            self.numbers.width_on_card().into(),
         ])
     }
 
@@ -215,9 +229,10 @@ impl Case {
             0 => {
                 self.note_cut(regions);
                 self.note_bytes(regions);
+                self.note_field(regions);
             }
             19 => self.note_19(regions),
-            _ => self.note_2_to_4(regions, number),
+            _ => self.note_card(regions, number),
         }
     }
 
@@ -261,6 +276,29 @@ impl Case {
         regions.note_if(high > 1 && low == 0, "0: length with low byte 0");
     }
 
+    /// Notes whether the fourth field of a card that was cut is there, and what stands in its bytes.
+    fn note_field(&self, regions: &mut Regions) {
+        let past = self.out.len() - self.card_length();
+        let Numbers { f, width, .. } = self.numbers;
+        if !self.numbers.has_field() {
+            regions.note_if(past == 0, "0: no field, just long enough");
+            regions.note_if(past >= FOURTH, "0: no field, room for one");
+            regions.note_if(width != 0, "0: no field, W not 0 reads back as 0");
+            regions.note_if((2..=f).contains(&width), "0: no field, W legal");
+            return;
+        }
+        let [_, high, middle, low] = width.to_be_bytes();
+        let unlike = high != middle && middle != low && high != low;
+        regions.note_if(past == 0, "0: field, just long enough");
+        regions.note_if(past > 0, "0: field, bytes kept");
+        regions.note_if(
+            self.numbers.d() == D_MOST && past == 0,
+            "0: longest card with the field, just long enough",
+        );
+        regions.note_if(high > 0 && unlike, "0: W of three unlike bytes");
+        regions.note_if(high == 0 && middle == 0, "0: W of one byte");
+    }
+
     fn note_19(&self, regions: &mut Regions) {
         let out = self.out.len();
         let short = self.card_length() - out;
@@ -277,10 +315,17 @@ impl Case {
             self.numbers.d() == D_MOST && short == 1,
             "19: longest card, a byte short",
         );
+        if self.numbers.has_field() {
+            regions.note_if(short == 1, "19: field, a byte short");
+            regions.note_if(short == FOURTH, "19: field, room for all but the field");
+            regions.note_if(short < FOURTH, "19: field, room for a part of it");
+        } else {
+            regions.note_if(short == 1, "19: no field, a byte short");
+        }
     }
 
-    /// Notes whether question 19 would say no as well, and with it others of 2 to 4.
-    fn note_2_to_4(&self, regions: &mut Regions, number: u32) {
+    /// Notes whether question 19 would say no as well, and with it others of 2 to 4 and 27.
+    fn note_card(&self, regions: &mut Regions, number: u32) {
         let too_short = self.out.len() < self.card_length();
         let room = if too_short { "too short" } else { "room" };
         regions.note(&format!("{number}: {room}"));
@@ -299,7 +344,7 @@ impl Case {
         }
     }
 
-    /// The questions after the first no, up to 4, that say no as well. None for L 0, which has no K.
+    /// The questions after the first no, up to 27, that say no as well. None for L 0, which has no K.
     fn also_missed(&self) -> Vec<u32> {
         let Numbers {
             f,
@@ -308,6 +353,8 @@ impl Case {
             m,
             lo,
             hi,
+            dealt,
+            width,
             ref weights,
         } = self.numbers;
         if l == 0 {
@@ -317,6 +364,7 @@ impl Case {
             (2, question_2(f, l, r)),
             (3, question_3(m, lo, hi)),
             (4, question_4(self.numbers.k(), weights)),
+            (27, question_27(f, dealt != 0, width)),
         ];
         let missed = yes.iter().filter(|(_, yes)| !yes);
         missed.map(|&(number, _)| number).skip(1).collect()
@@ -335,8 +383,15 @@ const REGIONS: &[&str] = &[
     "0: length with no byte 0", "0: length with low byte 0",
     "2: too short", "2: room", "2: no bytes", "3: too short", "3: room", "3: no bytes", "4: too short", "4: room", "4: no bytes",
     "2: [3] too, too short", "2: [4] too, too short", "2: [3, 4] too, too short", "3: [4] too, too short",
+    "27: too short", "27: room", "27: no bytes", "2: [27] too, too short", "3: [27] too, too short", "4: [27] too, too short",
+    "2: [3, 4, 27] too, too short",
     "4: no weights, room for the head", "4: weights of over 65,535 bytes, too short", "4: weights of over 65,535 bytes, room",
     "weights and out NULL", "read and cut",
+    "0: field, just long enough", "0: field, bytes kept", "0: longest card with the field, just long enough",
+    "0: W of three unlike bytes", "0: W of one byte",
+    "0: no field, just long enough", "0: no field, room for one", "0: no field, W not 0 reads back as 0", "0: no field, W legal",
+    "19: field, a byte short", "19: field, room for all but the field", "19: field, room for a part of it",
+    "19: no field, a byte short",
 ];
 
 /// Numbers and plan of an accepted card, some at the limits that decide what stands in its bytes.
@@ -347,6 +402,9 @@ fn any_legal(random: &mut Random) -> Numbers {
             let d = cards::any_d(random, K_MOST);
             let mut numbers = cards::accepted(random, 64, K_MOST, d);
             numbers.f = F_MOST as u32;
+            if numbers.has_field() {
+                numbers.width = cards::any_legal_width(random, numbers.f);
+            }
             numbers
         }
         _ => cards::any_accepted(random),
@@ -373,10 +431,16 @@ fn over_two_bytes(random: &mut Random, numbers: &mut Numbers) {
     numbers.weights.resize(length, 0);
 }
 
-/// A length for the buffer of a card with so many bytes of weights.
-fn any_length(random: &mut Random, weights_length: usize) -> usize {
-    let card = HEAD + weights_length;
-    match random.below(24) {
+/// The length of the card that is to be cut from these numbers.
+fn card_length(numbers: &Numbers) -> usize {
+    HEAD + numbers.weights.len() + numbers.fourth().len()
+}
+
+/// A length for the buffer of the card of these numbers. The fourth field makes a difference of 7 bytes, whether it is there or not.
+fn any_length(random: &mut Random, numbers: &Numbers) -> usize {
+    let weights_length = numbers.weights.len();
+    let card = card_length(numbers);
+    match random.below(26) {
         0 | 1 => card - 1,
         2 | 3 => card + 1,
         4 => card - 4,
@@ -387,6 +451,8 @@ fn any_length(random: &mut Random, weights_length: usize) -> usize {
         10 => random.below(card),
         11 => card + random.between(2, 5_000),
         12..=15 => card + random.between(1, 40),
+        16 => card - FOURTH,
+        17 => card + FOURTH,
         _ => card,
     }
 }
@@ -408,7 +474,12 @@ fn case(random: &mut Random, regions: &mut Regions) -> Result<(), String> {
 fn cut_card() {
     run(
         "cut_card",
-        &[cards::REGIONS, cards::HANDED_REGIONS, REGIONS],
+        &[
+            cards::REGIONS,
+            cards::HANDED_REGIONS,
+            cards::LARGEST_REGIONS,
+            REGIONS,
+        ],
         case,
     );
 }

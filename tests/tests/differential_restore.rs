@@ -24,6 +24,8 @@ extern "C" {
         m: u8,
         lo: u16,
         hi: u16,
+        dealt: u8,
+        width: u32,
         weights: *const u8,
         weights_len: usize,
         store: *const u8,
@@ -153,6 +155,8 @@ impl Case {
                 numbers.m,
                 numbers.lo,
                 numbers.hi,
+                numbers.dealt,
+                numbers.width,
                 weights.pointer(),
                 weights.len(),
                 store.pointer(),
@@ -219,6 +223,12 @@ impl Case {
             return;
         }
         let (record, k) = (self.numbers.record(), self.numbers.k());
+        if after.number == 27 {
+            let too_many = self.count > self.store.len() / record;
+            regions.note_if(too_many, "27: 14 too");
+            regions.note_if(!too_many, "27: 14 fine");
+            return;
+        }
         let whole = k * usize::from(self.numbers.l);
         shelves::note(regions, record, self.store.len(), self.count, after.number);
         match after.number {
@@ -309,7 +319,7 @@ const REGIONS: &[&str] = &[
     "all present of more than 8", "all present and contradictions", "some missing and contradictions", "1 sweep", "2 sweeps",
     "5 sweeps or more", "9 sweeps or more", "a sweep for each segment", "seed 0 past the count", "two records of a seed",
     "file just long enough", "file longer", "marks just long enough", "marks longer", "list just long enough", "list longer",
-    "shelf NULL and accepted", "file NULL", "marks NULL", "list NULL",
+    "shelf NULL and accepted", "file NULL", "marks NULL", "list NULL", "27: 14 too", "27: 14 fine",
 ];
 
 /// Mostly degrees 1, 2 and 3, by which peeling goes far.

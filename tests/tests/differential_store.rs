@@ -23,6 +23,8 @@ extern "C" {
         m: u8,
         lo: u16,
         hi: u16,
+        dealt: u8,
+        width: u32,
         weights: *const u8,
         weights_len: usize,
         store: *mut u8,
@@ -122,6 +124,8 @@ impl Case {
                 numbers.m,
                 numbers.lo,
                 numbers.hi,
+                numbers.dealt,
+                numbers.width,
                 weights.pointer(),
                 weights.len(),
                 store.pointer_mut(),
@@ -175,6 +179,11 @@ impl Case {
         reads::note(regions, &self.numbers, &self.read, after.number);
         let (record, length) = (self.numbers.record(), self.store.len());
         shelves::note(regions, record, length, self.count, after.number);
+        if after.number == 27 {
+            let too_many = self.count > length / record;
+            regions.note_if(too_many, "27: 14 too");
+            regions.note_if(!too_many, "27: 14 fine");
+        }
         if ![0, 15, 16].contains(&after.number) {
             return;
         }
@@ -244,7 +253,7 @@ const REGIONS: &[&str] = &[
     "answer 15", "answer 16", "accepted", "accepted as the first", "accepted into the last bytes", "its seed past the count",
     "accepted after 100 records", "repeat", "repeat on a full shelf", "first record the same, a later one not",
     "15: on a full shelf", "15: first record another, a later one the same", "15: only the last byte differs",
-    "16: a byte short", "16: no byte left", "shelf NULL", "read NULL", "a list of calls",
+    "16: a byte short", "16: no byte left", "shelf NULL", "read NULL", "a list of calls", "27: 14 too", "27: 14 fine",
 ];
 
 /// A record near the one that is offered: its seed, its payload, or neither; or one that differs from it by little.
@@ -361,6 +370,7 @@ fn store() {
         &[
             cards::REGIONS,
             cards::HANDED_REGIONS,
+            cards::LARGEST_REGIONS,
             reads::REGIONS,
             joints::REGIONS,
             shelves::REGIONS,

@@ -28,6 +28,8 @@ extern "C" {
         m: u8,
         lo: u16,
         hi: u16,
+        dealt: u8,
+        width: u32,
         weights: *const u8,
         weights_len: usize,
         file: *const u8,
@@ -201,6 +203,8 @@ impl Case {
                 numbers.m,
                 numbers.lo,
                 numbers.hi,
+                numbers.dealt,
+                numbers.width,
                 weights.pointer(),
                 weights.len(),
                 file.pointer(),
@@ -310,6 +314,11 @@ impl Case {
             0 => {
                 self.note_written(regions, after.answer, needed);
                 self.note_strands(regions, after);
+            }
+            27 => {
+                let other_length = self.file.len() != self.numbers.f as usize;
+                regions.note_if(other_length, "27: 5 too");
+                regions.note_if(!other_length, "27: 5 fine");
             }
             5 => {
                 regions.note_if(
@@ -438,6 +447,7 @@ const REGIONS: &[&str] = &[
     "8: one short", "8: no list", "spent", "done and spent at once", "done before the budget", "some seeds did not pass",
     "no seed passed", "wanted 0", "wanted 1,000,000", "budget 0", "budget 4,294,967,295", "out just long enough", "out longer",
     "file NULL", "out NULL and accepted", "list NULL", "list just long enough", "list longer", "a one fell out of the seed", "resumed",
+    "27: 5 too", "27: 5 fine",
 ];
 
 /// A file of F bytes: any, or of few different ones, so that long runs occur.

@@ -1,11 +1,13 @@
 //! What the C host must print for the bench reads (`host/bench.expected`), by this implementation's read check.
 
-use second::{read_check, Handed};
+use second::read_check;
 use std::fs;
 use std::path::PathBuf;
 
 fn host(name: &str) -> Vec<u8> {
-    let path = PathBuf::from(env!("CARGO_MANIFEST_DIR")).join("../host").join(name);
+    let path = PathBuf::from(env!("CARGO_MANIFEST_DIR"))
+        .join("../host")
+        .join(name);
     fs::read(&path).unwrap_or_else(|e| panic!("{}: {e}", path.display()))
 }
 
@@ -13,15 +15,7 @@ fn host(name: &str) -> Vec<u8> {
 fn expected_output_of_the_host() {
     let card = host("bench.card");
     let accepted = second::read_card(&card).expect("the bench card is accepted");
-    let handed = Handed {
-        f: accepted.f,
-        l: accepted.l,
-        r: accepted.r,
-        m: accepted.m,
-        lo: accepted.lo,
-        hi: accepted.hi,
-        weights: &card[20..],
-    };
+    let handed = accepted.handed(&card);
     let reads = host("bench.reads");
     let mut printed = String::new();
     for line in second::listing::lines(&reads) {

@@ -122,6 +122,14 @@ fn card_with(f: u32, l: u8, d: usize) -> Vec<u8> {
     card
 }
 
+/// The card with a fourth field of this width behind it.
+fn with_width(card: &[u8], width: u32) -> Vec<u8> {
+    let mut card = card.to_vec();
+    card.extend_from_slice(&[4, 0, 4]);
+    card.extend_from_slice(&width.to_be_bytes());
+    card
+}
+
 /// A legal read under such a card, if no run is too long.
 fn legal(seed: u32, payload: &[u8]) -> Vec<u8> {
     letters_of_bytes(&strand_bytes(seed, payload, 4))
@@ -212,8 +220,53 @@ fn refused_cards() {
     let mut card = P;
     (card[23], card[27]) = (0, 0);
     assert_eq!(run("card-4", Some(&card), input), "card 4\n");
+    for (name, width) in [("0", 0), ("1", 1), ("5", 5), ("most", u32::MAX)] {
+        let card = with_width(&P, width);
+        let name = format!("card-27-{name}");
+        assert_eq!(run(&name, Some(&card), input), "card 27\n");
+    }
     // No input at all is read after a refusal.
     assert_eq!(run("card-2-alone", Some(&changed(7, 0)), b""), "card 2\n");
+}
+
+#[test]
+fn cards_with_a_width() {
+    // A legal width changes nothing of the sheet: it speaks of dealt segments.
+    let input = FIVE_LINES.as_bytes();
+    for width in [2, 3, 4] {
+        let name = format!("width-{width}");
+        assert_eq!(run(&name, Some(&with_width(&P, width)), input), TWO_LINES);
+    }
+    // The field is whole, stands once and last.
+    let card = with_width(&P, 2);
+    for end in 29..35 {
+        let name = format!("width-cut-{end}");
+        assert_eq!(run(&name, Some(&card[..end]), input), "card 1\n");
+    }
+    assert_eq!(
+        run("width-twice", Some(&with_width(&card, 2)), input),
+        "card 1\n"
+    );
+    let mut early = P[..17].to_vec();
+    early.extend_from_slice(&card[28..]);
+    early.extend_from_slice(&P[17..]);
+    assert_eq!(run("width-early", Some(&early), input), "card 1\n");
+    // The questions before it come first, and "card too large" after it.
+    let mut zeros = P;
+    (zeros[23], zeros[27]) = (0, 0);
+    assert_eq!(
+        run("width-4", Some(&with_width(&zeros, 1)), input),
+        "card 4\n"
+    );
+    let large = card_with(32_769, 1, 1);
+    assert_eq!(
+        run("width-27", Some(&with_width(&large, 32_770)), input),
+        "card 27\n"
+    );
+    assert_eq!(
+        run("width-large", Some(&with_width(&large, 32_769)), input),
+        "card too large\n"
+    );
 }
 
 #[test]
@@ -234,6 +287,16 @@ fn length_of_the_card() {
     assert_eq!(card.len(), 4_116);
     let sheet = "segments 32768 present 0 sweeps 1 contradictions 0\n";
     assert_eq!(run("4116", Some(&card), b""), reads(0, 0, 0, 0) + sheet);
+    let card = with_width(&card, 32_768);
+    assert_eq!(card.len(), 4_123);
+    assert_eq!(run("4123", Some(&card), b""), reads(0, 0, 0, 0) + sheet);
+    // With the field too, 8,192 bytes are read whole and a byte more counts as empty: D is too large, and then there is no card.
+    let card = with_width(&card_with(32_768, 1, 2041), 2);
+    assert_eq!(card.len(), 8_191);
+    assert_eq!(run("8191", Some(&card), b""), "card 4\n");
+    let card = with_width(&card_with(32_768, 1, 2042), 2);
+    assert_eq!(card.len(), 8_195);
+    assert_eq!(run("8195", Some(&card), b""), "card 1\n");
 }
 
 #[test]
@@ -441,6 +504,8 @@ fn a_pool_with_damage() {
         m: 20,
         lo: 0,
         hi: 1000,
+        dealt: false,
+        width: 0,
         weights: &card[20..],
     };
     let n = handed.n_bases();

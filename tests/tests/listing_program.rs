@@ -45,6 +45,26 @@ AAAN
     );
 }
 
+/// A fourth field of a legal width changes nothing; one of another width is refused.
+#[test]
+fn cards_with_a_width() {
+    let with_width = |width: u8| [&P[..], &[4, 0, 4, 0, 0, 0, width]].concat();
+    for width in [2, 4] {
+        assert_eq!(
+            run(
+                "width",
+                Some(&with_width(width)),
+                b"AAAAAAAAAAAAAAACTGCAATCGTCAT"
+            ),
+            "reads 1 accepted 1 repeated 0 refused 0\n\
+             segments 4 present 1 sweeps 2 contradictions 0\n"
+        );
+    }
+    for width in [0, 1, 5] {
+        assert_eq!(run("width", Some(&with_width(width)), b""), "card 27\n");
+    }
+}
+
 #[test]
 fn missing_card() {
     assert_eq!(run("missing", None, b"AAAN\n"), "card 1\n");

@@ -26,6 +26,8 @@ fn a_file_comes_back() {
         m: 4,
         lo: 400,
         hi: 600,
+        dealt: false,
+        width: 0,
         weights: &weights,
     };
     assert_eq!((handed.k(), handed.n_bases()), (100, 112));
@@ -100,6 +102,76 @@ fn a_file_comes_back() {
     assert_eq!(back[..1990], file);
 }
 
+/// Document 02, Item 14: a file is dealt, printed, read, restored and undealt. "what
+/// the restorer promises is promised of the dealt file", and "Dealing and undealing
+/// give back every file of every length".
+#[test]
+fn a_dealt_file_comes_back() {
+    // A stretch of zeros, which dealing spreads. With W = 100 a segment has one byte of
+    // each hundred, so that four zeros stand there in a row: 16 letters A, which m allows.
+    let mut file: Vec<u8> = (0..1990u32)
+        .map(|i| (i.wrapping_mul(2_654_435_761) >> 24) as u8)
+        .collect();
+    file[500..900].fill(0);
+    let mut weights = vec![60u32, 500, 170, 80, 50, 35, 25, 20];
+    weights.resize(40, 2);
+    let weights = bytes_of(&weights);
+    for width in [2, 3, 20, 100, 994, 996, 1989, 1990] {
+        let cut_from = Handed {
+            f: 1990,
+            l: 20,
+            r: 4,
+            m: 20,
+            lo: 0,
+            hi: 1000,
+            dealt: true,
+            width,
+            weights: &weights,
+        };
+        // Both sides of the job know W from the card alone.
+        let mut card = vec![0; 27 + 160];
+        assert_eq!(cut_card(&cut_from, &mut card), Ok(187));
+        let handed = read_card(&card).unwrap().handed(&card);
+        assert_eq!(handed, cut_from);
+
+        let mut dealt = vec![0; 1990];
+        deal(&handed, &file, &mut dealt).unwrap();
+        let mut printed = vec![0; 300 * 113];
+        let mut list = [0; 40];
+        let answer = write(
+            &handed,
+            &dealt,
+            0xACE1_2357,
+            300,
+            1_000_000,
+            &mut printed,
+            &mut list,
+        )
+        .unwrap();
+        assert_eq!((answer.stop, answer.made), (Stop::Done, 300), "{width}");
+
+        let mut shelf = vec![0; 300 * 24];
+        let mut count = 0;
+        for line in printed.chunks(113).rev() {
+            let Ok(Shelved::Accepted { count: after }) =
+                shelve(&handed, &line[..112], &mut shelf, count)
+            else {
+                panic!("a strand just written is new and legal");
+            };
+            count = after;
+        }
+        let mut restored = vec![0xEE; 2000];
+        let mut marks = vec![0; 100];
+        let sheet = restore(&handed, &shelf, count, &mut restored, &mut marks, &mut list).unwrap();
+        assert_eq!((sheet.present, sheet.contradictions), (100, 0), "{width}");
+        assert_eq!(restored[..1990], dealt);
+        let mut back = vec![0xEE; 2000];
+        undeal(&handed, &restored, &mut back).unwrap();
+        assert_eq!(back[..1990], file, "{width}");
+        assert_eq!(back[1990..], [0xEE; 10]);
+    }
+}
+
 /// The largest job: F = 8,388,608, L = 64, R = 4, K = 131,072, D = 1,024.
 #[test]
 fn the_largest_card() {
@@ -114,6 +186,8 @@ fn the_largest_card() {
         m: 20,
         lo: 0,
         hi: 1000,
+        dealt: false,
+        width: 0,
         weights: &weights,
     };
     let mut printed = vec![0; 3 * 289];

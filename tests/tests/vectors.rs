@@ -5,6 +5,7 @@ use std::path::PathBuf;
 #[test]
 fn both_implementations_give_the_published_values() {
     let path = PathBuf::from(env!("CARGO_MANIFEST_DIR")).join("../crates/vectors/stdout");
-    let expected = std::fs::read_to_string(&path).unwrap_or_else(|e| panic!("{}: {e}", path.display()));
+    let expected =
+        std::fs::read_to_string(&path).unwrap_or_else(|e| panic!("{}: {e}", path.display()));
     assert_eq!(second::vectors::vectors(), expected);
 }

@@ -1,7 +1,8 @@
--- The C forms of the card reader, the card cutter, the writer, storing and restoring: for each the number returned and the lent answer, by the
--- cases of what the call itself answers, and with it the buffers. A refusal leaves the answer as it was. Assumes nothing.
+-- The C forms of the card reader, the card cutter, the writer, storing, restoring, dealing and undealing: for each the number returned and
+-- the lent answer, by the cases of what the call itself answers, and with it the buffers. A refusal leaves the answer as it was. Assumes
+-- nothing.
 use mathlib.Core.Path.{_≡_}
-use mathlib.Core.Bool.{false}
+use mathlib.Core.Bool.{Bool, false, cond}
 use mathlib.Core.List.{List, [], _∷_}
 use Prim.Native.Nat.{ℕ}
 use lib.Dec.{eqb}
@@ -10,6 +11,7 @@ use Rattle.droplet.specs.declared.card.Card.{Card}
 use Rattle.droplet.specs.PoolCard.{weightCount}
 use Rattle.droplet.specs.Questions.{CardRead}
 use Rattle.droplet.specs.CardCutter.{Cut, cutReply, cutBuffer, cutCard}
+use Rattle.interleave.specs.InterleaveCalls.{Reordered, reorderReply, reorderTarget, reorderFile}
 use Rattle.strand.specs.declared.writer.Stop.{Stop}
 use Rattle.strand.specs.declared.writer.Stop.the-variants.{Done, Spent}
 use Rattle.strand.specs.Writer.{Written, writerAnswer, WriterLeaves}
@@ -20,9 +22,14 @@ use Rattle.decoder.specs.Restorer.{Restored, restore, restoreRefusal, endAnswer
 pub data Returned : Type 0 where
   returned : ℕ → List ℕ → Returned
 
--- the card reader: F, L, R, m, lo, hi and D
+-- whether the card has the fourth field: 0 or 1
+abbrev pub flagNumber : Bool → ℕ
+flagNumber there = cond there 1 0
+
+-- the card reader: F, L, R, m, lo, hi, D, whether the fourth field is there, and W
 unfoldable pub cardReturned : List ℕ → CardRead → Returned
-cardReturned answer (CardRead.accepted c d) = returned 0 (c .f ∷ (c .l ∷ (c .r ∷ (c .m ∷ (c .lo ∷ (c .hi ∷ (d ∷ [])))))))
+cardReturned answer (CardRead.accepted c d) =
+    returned 0 (c .f ∷ (c .l ∷ (c .r ∷ (c .m ∷ (c .lo ∷ (c .hi ∷ (d ∷ (flagNumber (c .interleaved) ∷ (c .width ∷ [])))))))))
 cardReturned answer (CardRead.refused n) = returned n answer
 
 -- the card cutter: the card's length
@@ -76,3 +83,13 @@ pub record RestoreForm (c : Card) (weights buffer : List ℕ) (count : ℕ) (fil
   pub sets : marks′ ≡ endState (restore c weights buffer count file marks (length list)) .marks
   pub keeps : drop (weightCount weights) list′ ≡ drop (weightCount weights) list
   pub untouched : eqb (restoreRefusal c weights buffer count (length file) (length marks) (length list)) 0 ≡ false → list′ ≡ list
+
+-- dealing and undealing: no number but the refusal's
+abbrev pub reorderReturned : Reordered → ℕ
+reorderReturned Reordered.done = 0
+reorderReturned (Reordered.refused n) = n
+
+-- their C form: the number, and the target at exit
+pub record ReorderForm (back : Bool) (c : Card) (weights source target : List ℕ) (n : ℕ) (target′ : List ℕ) : Type 0 where
+  pub returns : n ≡ reorderReturned (reorderReply (reorderFile back c weights source target))
+  pub leaves : target′ ≡ reorderTarget (reorderFile back c weights source target)

@@ -1,6 +1,8 @@
 ghost use mathlib.Core.Path.{_≡_};
+ghost use mathlib.Core.Bool.{true, false};
 ghost use Rattle.droplet.specs.Questions.{cardReading};
-ghost use Rattle.capi.specs.CForms.{cardReturned, stopNumber, CutForm, WriteForm, StoreForm, RestoreForm};
+ghost use Rattle.strand.specs.CForm.{handedCard};
+ghost use Rattle.capi.specs.CForms.{flagNumber, cardReturned, stopNumber, CutForm, WriteForm, StoreForm, RestoreForm, ReorderForm};
 ghost use Rattle.capi.specs.CForms.Returned.{returned};
 use decoder::restorer;
 use decoder::restorer::RestoreAnswer;
@@ -11,6 +13,8 @@ use droplet::card::Card;
 use droplet::card::CardAnswer;
 use droplet::card_cutter;
 use droplet::card_cutter::CutAnswer;
+use interleave::file;
+use interleave::file::ReorderAnswer;
 use strand::writer;
 use strand::writer::Stop;
 use strand::writer::WriteAnswer;
@@ -18,9 +22,16 @@ use strand::writer::WriteAnswer;
 // Each form calls the public function of its layer and turns the answer into numbers. They are written last, and only where
 // nothing was refused, so that a refusal leaves what the host lent.
 
-// The card reader: F, L, R, m, lo, hi and D.
+// Whether the card has the fourth field, as a number.
+fn flag_number(flag: bool) -> u64
+    ensures { λ n. ⌜ n ≡ flagNumber flag ⌝ }
+{
+    if flag { 1 } else { 0 }
+}
+
+// The card reader: F, L, R, m, lo, hi, D, whether the fourth field is there, and W.
 #[no_mangle]
-pub extern "C" fn fountain_read_card(card: &[u8], answer: &mut [u64; 7]) -> u32
+pub extern "C" fn fountain_read_card(card: &[u8], answer: &mut [u64; 9]) -> u32
     ensures { λ n. ⌜ returned n (now (answer .exit)) ≡ cardReturned (now (answer .entry)) (cardReading (now (card .entry))) ⌝ }
 {
     match card::read_card(card) {
@@ -34,6 +45,8 @@ pub extern "C" fn fountain_read_card(card: &[u8], answer: &mut [u64; 7]) -> u32
                 c.lo as u64,
                 c.hi as u64,
                 d as u64,
+                flag_number(c.interleaved),
+                c.width as u64,
             ];
             0
         }
@@ -49,14 +62,27 @@ pub extern "C" fn fountain_cut_card(
     m: u8,
     lo: u16,
     hi: u16,
+    dealt: u8,
+    width: u32,
     weights: &[u8],
     out: &mut [u8],
     answer: &mut [u64; 1],
 ) -> u32
-    ensures { λ n. ⌜ CutForm (record { f = f; l = l; r = r; m = m; lo = lo; hi = hi }) (now (weights .entry)) (now (out .entry)) (now (answer .entry))
+    ensures { λ n. ⌜ CutForm (handedCard f l r m lo hi dealt width) (now (weights .entry)) (now (out .entry)) (now (answer .entry))
         n (now (out .exit)) (now (answer .exit)) ⌝ }
 {
-    match card_cutter::cut_card(Card { f, l, r, m, lo, hi }, weights, out) {
+    let interleaved = dealt != 0;
+    let card = Card {
+        f,
+        l,
+        r,
+        m,
+        lo,
+        hi,
+        interleaved,
+        width,
+    };
+    match card_cutter::cut_card(card, weights, out) {
         CutAnswer::Refused(n) => n as u32,
         CutAnswer::Cut(size) => {
             *answer = [size as u64];
@@ -84,6 +110,8 @@ pub extern "C" fn fountain_write(
     m: u8,
     lo: u16,
     hi: u16,
+    dealt: u8,
+    width: u32,
     weights: &[u8],
     file: &[u8],
     start: u32,
@@ -93,10 +121,20 @@ pub extern "C" fn fountain_write(
     list: &mut [u32],
     answer: &mut [u64; 6],
 ) -> u32
-    ensures { λ n. ⌜ WriteForm (record { f = f; l = l; r = r; m = m; lo = lo; hi = hi }) (now (weights .entry)) (now (file .entry)) start wanted budget
+    ensures { λ n. ⌜ WriteForm (handedCard f l r m lo hi dealt width) (now (weights .entry)) (now (file .entry)) start wanted budget
         (now (out .entry)) (now (list .entry)) (now (answer .entry)) n (now (out .exit)) (now (list .exit)) (now (answer .exit)) ⌝ }
 {
-    let card = Card { f, l, r, m, lo, hi };
+    let interleaved = dealt != 0;
+    let card = Card {
+        f,
+        l,
+        r,
+        m,
+        lo,
+        hi,
+        interleaved,
+        width,
+    };
     match writer::write_strands(card, weights, file, start, wanted, budget, out, list) {
         WriteAnswer::Refused(n) => n as u32,
         WriteAnswer::Written(run) => {
@@ -123,16 +161,29 @@ pub extern "C" fn fountain_store(
     m: u8,
     lo: u16,
     hi: u16,
+    dealt: u8,
+    width: u32,
     weights: &[u8],
     store: &mut [u8],
     count: usize,
     read: &[u8],
     answer: &mut [u64; 2],
 ) -> u32
-    ensures { λ n. ⌜ StoreForm (record { f = f; l = l; r = r; m = m; lo = lo; hi = hi }) (now (weights .entry)) (now (store .entry)) count (now (read .entry))
+    ensures { λ n. ⌜ StoreForm (handedCard f l r m lo hi dealt width) (now (weights .entry)) (now (store .entry)) count (now (read .entry))
         (now (answer .entry)) n (now (store .exit)) (now (answer .exit)) ⌝ }
 {
-    match store::store_read(Card { f, l, r, m, lo, hi }, weights, store, count, read) {
+    let interleaved = dealt != 0;
+    let card = Card {
+        f,
+        l,
+        r,
+        m,
+        lo,
+        hi,
+        interleaved,
+        width,
+    };
+    match store::store_read(card, weights, store, count, read) {
         StoreAnswer::Refused(n) => n as u32,
         StoreAnswer::Accepted(after) => {
             *answer = [0, after as u64];
@@ -154,6 +205,8 @@ pub extern "C" fn fountain_restore(
     m: u8,
     lo: u16,
     hi: u16,
+    dealt: u8,
+    width: u32,
     weights: &[u8],
     store: &[u8],
     count: usize,
@@ -162,11 +215,21 @@ pub extern "C" fn fountain_restore(
     list: &mut [u32],
     answer: &mut [u64; 3],
 ) -> u32
-    ensures { λ n. ⌜ RestoreForm (record { f = f; l = l; r = r; m = m; lo = lo; hi = hi }) (now (weights .entry)) (now (store .entry)) count
+    ensures { λ n. ⌜ RestoreForm (handedCard f l r m lo hi dealt width) (now (weights .entry)) (now (store .entry)) count
         (now (file .entry)) (now (marks .entry)) (now (list .entry)) (now (answer .entry)) n
         (now (file .exit)) (now (marks .exit)) (now (list .exit)) (now (answer .exit)) ⌝ }
 {
-    let card = Card { f, l, r, m, lo, hi };
+    let interleaved = dealt != 0;
+    let card = Card {
+        f,
+        l,
+        r,
+        m,
+        lo,
+        hi,
+        interleaved,
+        width,
+    };
     match restorer::restore(card, weights, store, count, file, marks, list) {
         RestoreAnswer::Refused(n) => n as u32,
         RestoreAnswer::Restored(sheet) => {
@@ -177,5 +240,73 @@ pub extern "C" fn fountain_restore(
             ];
             0
         }
+    }
+}
+
+// Dealing: the first F bytes of the target.
+#[no_mangle]
+pub extern "C" fn fountain_deal(
+    f: u32,
+    l: u8,
+    r: u8,
+    m: u8,
+    lo: u16,
+    hi: u16,
+    dealt: u8,
+    width: u32,
+    weights: &[u8],
+    source: &[u8],
+    target: &mut [u8],
+) -> u32
+    ensures { λ n. ⌜ ReorderForm false (handedCard f l r m lo hi dealt width) (now (weights .entry)) (now (source .entry)) (now (target .entry)) n (now (target .exit)) ⌝ }
+{
+    let interleaved = dealt != 0;
+    let card = Card {
+        f,
+        l,
+        r,
+        m,
+        lo,
+        hi,
+        interleaved,
+        width,
+    };
+    match file::interleave_file(card, weights, source, target) {
+        ReorderAnswer::Refused(n) => n as u32,
+        ReorderAnswer::Done => 0,
+    }
+}
+
+// Undealing, its inverse.
+#[no_mangle]
+pub extern "C" fn fountain_undeal(
+    f: u32,
+    l: u8,
+    r: u8,
+    m: u8,
+    lo: u16,
+    hi: u16,
+    dealt: u8,
+    width: u32,
+    weights: &[u8],
+    source: &[u8],
+    target: &mut [u8],
+) -> u32
+    ensures { λ n. ⌜ ReorderForm true (handedCard f l r m lo hi dealt width) (now (weights .entry)) (now (source .entry)) (now (target .entry)) n (now (target .exit)) ⌝ }
+{
+    let interleaved = dealt != 0;
+    let card = Card {
+        f,
+        l,
+        r,
+        m,
+        lo,
+        hi,
+        interleaved,
+        width,
+    };
+    match file::deinterleave_file(card, weights, source, target) {
+        ReorderAnswer::Refused(n) => n as u32,
+        ReorderAnswer::Done => 0,
     }
 }

@@ -32,6 +32,7 @@ pub mod FirstOfSeed
 pub mod FileReads
 pub mod NeverRefused15
 pub mod RightSheets
+pub mod CustomersFile
 pub mod FromFileToVault
 pub mod WrittenParts
 pub mod Unmarked

@@ -1,19 +1,23 @@
--- Document 01, "Bench examples": all starred lines, each part of each, and then examples of document 02's Item 1 and our own of Items 12 and 2, as
--- rows of one list under one proposition, over the definitions that the contracts cite. Assumes nothing.
+-- Document 01, "Bench examples": all starred lines, each part of each, and then examples of document 02's Item 1 and our own of Items 12, 2
+-- and 14, as rows of one list under one proposition, over the definitions that the contracts cite. Assumes nothing.
 use mathlib.Core.Path.{_≡_, refl}
+use mathlib.Core.Bool.{true, false}
 use mathlib.Core.List.{List, [], _∷_, _++_}
 use Prim.Native.Nat.{ℕ, zero, suc, _+_, _*_}
 use lib.ListN.{replicate}
 use Rattle.field.specs.declared.generator.Draw.{Draw}
 use Rattle.field.specs.Bytes.{All, fromBigEndian, toBigEndian, xorLists, padded, sameBytes}
+use Rattle.field.specs.Loops.{tableOf}
 use Rattle.field.specs.Shift.{shiftUp}
 use Rattle.field.specs.Generator.{ofSeed, afterDraw, numberDrawn, xorshift, seedAfter}
 use Rattle.field.specs.CheckBytes.{double, timesPower, horner, syndromes, byRoot, multiple, remainderAfter, parity}
 use Rattle.droplet.specs.declared.card.Card.{Card}
-use Rattle.droplet.specs.PoolCard.{numberAt, toTwoBytes, fieldBytes, cardBytes, cardNumbers, wellFormed, cardWeights, weightCount, weightAt, firstWeights, segmentCount, strandBytes, strandBases}
-use Rattle.droplet.specs.Questions.{sizesRight, limitsRight, weightsRight, cardRefusal, cardReadingRefusal, CardRead, cardReading}
+use Rattle.droplet.specs.PoolCard.{numberAt, toTwoBytes, fieldBytes, widthField, cardBytes, weightsEnd, widthThere, cardNumbers, wellFormed, cardWeights, weightCount, weightAt, firstWeights, segmentCount, strandBytes, strandBases}
+use Rattle.droplet.specs.Questions.{sizesRight, limitsRight, weightsRight, widthRight, cardRefusal, cardReadingRefusal, CardRead, cardReading}
 use Rattle.droplet.specs.CardCutter.{Cut, cut, CutEnd, ended, cutCard}
 use Rattle.droplet.specs.Droplet.{degreeFrom, degree, member, pickFrom, degreeOf, segmentsOf, segment, payload}
+use Rattle.interleave.specs.Interleaving.{withRemainder, firstColumns, interleave, columnStart, interleavedPlace, deinterleave, reordered}
+use Rattle.interleave.specs.InterleaveCalls.{bothLong, reorderRefusal, Reordered, done, ReorderEnd, fileReordered, reorderFile}
 use Rattle.strand.specs.declared.writer.Stop.the-variants.{Done, Spent}
 use Rattle.strand.specs.Letters.{letterOf, letterBits, textLetters, lettersBases, allLetters, byteBases, wordBases, byteLetters, wordLetters, lettersByte, lettersWord}
 use Rattle.strand.specs.Sites.{siteBefore, siteAfter}
@@ -32,7 +36,7 @@ bytesP =
 
 -- card P with other limits, or with another m and lo alone, D weights of one value (P's are 2 of value 1), and file Q
 abbrev pub limitsP : ℕ → ℕ → ℕ → Card
-limitsP m lo hi = record { f = 4; l = 1; r = 2; m = m; lo = lo; hi = hi }
+limitsP m lo hi = record { f = 4; l = 1; r = 2; m = m; lo = lo; hi = hi; interleaved = false; width = 0 }
 
 abbrev pub cardP : ℕ → ℕ → Card
 cardP m lo = limitsP m lo 1000
@@ -43,6 +47,21 @@ weights (suc D) value = 0 ∷ 0 ∷ 0 ∷ value ∷ weights D value
 
 abbrev pub fileQ : List ℕ
 fileQ = 0x1B ∷ 0x27 ∷ 0x4E ∷ 0xE4 ∷ []
+
+-- a pool of seven bytes that is dealt with W 3, or with another W: card, file and dealt file
+abbrev pub cardW : ℕ → Card
+cardW W = record { f = 7; l = 1; r = 2; m = 15; lo = 214; hi = 1000; interleaved = true; width = W }
+
+abbrev pub bytesW : List ℕ
+bytesW =
+    0x01 ∷ 0x00 ∷ 0x06 ∷ 0x00 ∷ 0x00 ∷ 0x00 ∷ 0x07 ∷ 0x01 ∷ 0x02 ∷ 0x02 ∷ 0x00 ∷ 0x05 ∷ 0x0F ∷ 0x00 ∷ 0xD6 ∷ 0x03 ∷ 0xE8 ∷ 0x03 ∷ 0x00 ∷ 0x08
+    ∷ 0x00 ∷ 0x00 ∷ 0x00 ∷ 0x01 ∷ 0x00 ∷ 0x00 ∷ 0x00 ∷ 0x01 ∷ 0x04 ∷ 0x00 ∷ 0x04 ∷ 0x00 ∷ 0x00 ∷ 0x00 ∷ 0x03 ∷ []
+
+abbrev pub fileW : List ℕ
+fileW = 0xA0 ∷ 0xA1 ∷ 0xA2 ∷ 0xA3 ∷ 0xA4 ∷ 0xA5 ∷ 0xA6 ∷ []
+
+abbrev pub dealtW : List ℕ
+dealtW = 0xA0 ∷ 0xA3 ∷ 0xA6 ∷ 0xA1 ∷ 0xA4 ∷ 0xA2 ∷ 0xA5 ∷ []
 
 -- what an example asks, with its answer
 pub data Row : Type 0 where
@@ -56,7 +75,9 @@ pub data Row : Type 0 where
   answers : List ℕ → ℕ → Row
   restores : List (List ℕ) → RestoreEnd → Row
   writes : Card → ℕ → ℕ → ℕ → Written → Row
-  cutsCard : List ℕ → List ℕ → CutEnd → Row
+  cutsCard : Card → List ℕ → List ℕ → CutEnd → Row
+  deals : Card → List ℕ → List ℕ → ReorderEnd → Row
+  undeals : Card → List ℕ → List ℕ → ReorderEnd → Row
 
 -- the first numbers drawn from a state, as many as the list has
 abbrev pub drawnFrom : Draw → List ℕ → List ℕ
@@ -91,7 +112,9 @@ Holds (steps s t) = seedAfter s ≡ t
 Holds (answers ws n) = cardRefusal (cardP 15 214) ws ≡ n
 Holds (restores offered end) = restoreAfter offered (replicate 20 7) 0 ≡ end
 Holds (writes c start wanted budget answer) = writerAnswer c (weights 2 1) fileQ start wanted budget (wanted * (strandBases c + 1)) 2 ≡ answer
-Holds (cutsCard ws buffer end) = cutCard (cardP 15 214) ws buffer ≡ end
+Holds (cutsCard c ws buffer end) = cutCard c ws buffer ≡ end
+Holds (deals c source target end) = reorderFile false c (weights 2 1) source target ≡ end
+Holds (undeals c source target end) = reorderFile true c (weights 2 1) source target ≡ end
 
 -- the strands of seeds 1, 2 and 3
 abbrev pub letters1 : List ℕ
@@ -126,9 +149,10 @@ runsOfTwo = textLetters "ATCTCCATTAGCGTTCTTGGTAAGAGGA"
 abbrev pub noRuns : List ℕ
 noRuns = textLetters "GACAGTATCTCGCATGCTCTGCTATGCA"
 
--- the last seven: ten strands of Q, with the strands dropped on the way under three pairs of limits, and a budget that is spent on a
+-- the last sixteen: ten strands of Q, with the strands dropped on the way under three pairs of limits, and a budget that is spent on a
 -- strand with both faults (document 02, Item 12); card P cut into a buffer with a byte to spare and into one a byte short, and a plan
--- that is refused before the buffer is (Item 2)
+-- that is refused before the buffer is (Item 2); the card with W 3 read and cut, its file dealt and undealt, each from a byte more into a
+-- byte more, and W 7, 1 and 8, a source and a target a byte short (Item 14)
 abbrev pub rows : List Row
 rows =
     cards bytesP (cardP 15 214) (weights 2 1)
@@ -163,13 +187,22 @@ rows =
     ∷ writes (limitsP 4 450 550) 0x12345678 10 1000 (written Done 10 49 0x506EC32B 7 32)
     ∷ writes (limitsP 3 400 600) 0x12345678 10 1000 (written Done 10 13 0x8ACEB9DE 2 1)
     ∷ writes (limitsP 3 450 550) 0x12345678 10 20 (written Spent 2 20 0x675CDD91 5 13)
-    ∷ cutsCard (weights 2 1) (replicate 29 7) (ended (cut 28) (bytesP ++ (7 ∷ [])))
-    ∷ cutsCard (weights 2 1) (replicate 27 7) (ended (Cut.refused 19) (replicate 27 7))
-    ∷ cutsCard (weights 5 1) [] (ended (Cut.refused 4) [])
+    ∷ cutsCard (cardP 15 214) (weights 2 1) (replicate 29 7) (ended (cut 28) (bytesP ++ (7 ∷ [])))
+    ∷ cutsCard (cardP 15 214) (weights 2 1) (replicate 27 7) (ended (Cut.refused 19) (replicate 27 7))
+    ∷ cutsCard (cardP 15 214) (weights 5 1) [] (ended (Cut.refused 4) [])
+    ∷ cards bytesW (cardW 3) (weights 2 1)
+    ∷ cutsCard (cardW 3) (weights 2 1) (replicate 36 7) (ended (cut 35) (bytesW ++ (7 ∷ [])))
+    ∷ deals (cardW 3) (fileW ++ (9 ∷ [])) (replicate 8 7) (ReorderEnd.ended done (dealtW ++ (7 ∷ [])))
+    ∷ undeals (cardW 3) (dealtW ++ (9 ∷ [])) (replicate 8 7) (ReorderEnd.ended done (fileW ++ (7 ∷ [])))
+    ∷ deals (cardW 7) fileW (replicate 7 7) (ReorderEnd.ended done fileW)
+    ∷ deals (cardW 1) fileW [] (ReorderEnd.ended (Reordered.refused 27) [])
+    ∷ deals (cardW 8) fileW [] (ReorderEnd.ended (Reordered.refused 27) [])
+    ∷ deals (cardW 3) (replicate 6 9) (replicate 7 7) (ReorderEnd.ended (Reordered.refused 28) (replicate 7 7))
+    ∷ undeals (cardW 3) dealtW (replicate 6 7) (ReorderEnd.ended (Reordered.refused 28) (replicate 6 7))
     ∷ []
 
 pub examples : All Holds rows
-unfolding cardReading cardReadingRefusal wellFormed cardBytes fieldBytes toTwoBytes cardNumbers cutCard seedAfter seedWord segmentsOf degreeOf degree degreeFrom pickFrom member ofSeed afterDraw numberDrawn xorshift segment payload padded strandWord toBigEndian fromBigEndian parity remainderAfter xorLists multiple byRoot timesPower double shiftUp horner syndromes cardRefusal sizesRight limitsRight weightsRight segmentCount strandBytes firstWeights weightAt numberAt letterOf letterBits allLetters byteBases wordBases byteLetters wordLetters lettersByte lettersWord textLetters lettersBases siteBefore siteAfter orderOf withBase longestOf longestRun gcCount measureOf verdict wordVerdict screenPasses sumsZero wordReading lettersReading readCheck recordBytes recordText recordPayload recordFrom records sameBytes findSeed appended compared storeReading storeRead droplets marked missing known filled filledBy step pass present peel cleared peelAll contradicts contradictions hasSeed roomRefusal laterRefusal restoreRefusal restore oneTry writeFrom writerRun ownRefusal writerRefusal
+unfolding cardReading cardReadingRefusal wellFormed cardBytes widthField fieldBytes toTwoBytes cardNumbers weightsEnd widthThere widthRight cutCard withRemainder firstColumns interleave columnStart interleavedPlace tableOf deinterleave reordered bothLong reorderRefusal fileReordered reorderFile seedAfter seedWord segmentsOf degreeOf degree degreeFrom pickFrom member ofSeed afterDraw numberDrawn xorshift segment payload padded strandWord toBigEndian fromBigEndian parity remainderAfter xorLists multiple byRoot timesPower double shiftUp horner syndromes cardRefusal sizesRight limitsRight weightsRight segmentCount strandBytes firstWeights weightAt numberAt letterOf letterBits allLetters byteBases wordBases byteLetters wordLetters lettersByte lettersWord textLetters lettersBases siteBefore siteAfter orderOf withBase longestOf longestRun gcCount measureOf verdict wordVerdict screenPasses sumsZero wordReading lettersReading readCheck recordBytes recordText recordPayload recordFrom records sameBytes findSeed appended compared storeReading storeRead droplets marked missing known filled filledBy step pass present peel cleared peelAll contradicts contradictions hasSeed roomRefusal laterRefusal restoreRefusal restore oneTry writeFrom writerRun ownRefusal writerRefusal
 examples = (
   (refl, refl),
   (
@@ -186,7 +219,7 @@ examples = (
               refl,
               (
                 (refl, refl, refl, refl),
-                (refl, (refl, (refl, (refl, (refl, (refl, (refl, (refl, (refl, (refl, (refl, (refl, (refl, (refl, (refl, (refl, (refl, (refl, (refl, (refl, (refl, (refl, (refl, (refl, (refl, (refl, tt)))))))))))))))))))))))))),
+                (refl, (refl, (refl, (refl, (refl, (refl, (refl, (refl, (refl, (refl, (refl, (refl, (refl, (refl, (refl, (refl, (refl, (refl, (refl, (refl, (refl, (refl, (refl, (refl, (refl, (refl, ((refl, refl), (refl, (refl, (refl, (refl, (refl, (refl, (refl, (refl, tt))))))))))))))))))))))))))))))))))),
               ),
             ),
           ),

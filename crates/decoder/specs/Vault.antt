@@ -1,6 +1,7 @@
 -- From file to vault and back: what a store and its restore sheet are worth where every legal read is a strand that the writer
 -- printed for one file. Reads may be lost, repeated and in any order, and what the read check refuses may be anything.
--- Assumes nothing.
+-- The file is the one that the writer was handed. Where the card has a width, that is the customer's file interleaved (document 02,
+-- Item 14: "what the restorer promises is promised of the dealt file"), and the last step gives the customer's. Assumes nothing.
 use mathlib.Core.Path.{_≡_}
 use mathlib.Core.Bool.{true}
 use mathlib.Core.List.{List, [], _∷_, _++_}
@@ -12,6 +13,8 @@ use Rattle.droplet.specs.declared.card.Card.{Card}
 use Rattle.droplet.specs.PoolCard.{segmentCount, strandBases, cardWeights}
 use Rattle.droplet.specs.Questions.{accepted, cardReading}
 use Rattle.droplet.specs.Droplet.{segment, payload, segmentsOf}
+use Rattle.interleave.specs.declared.file.ReorderAnswer.{ReorderAnswer}
+use Rattle.interleave.specs.InterleaveCalls.{done, reorderAnswer, InterleavePromise, DeinterleavePromise}
 use Rattle.strand.specs.declared.writer.Run.{Run}
 use Rattle.strand.specs.declared.writer.WriteAnswer.the-variants as writer
 use Rattle.strand.specs.ReadCheck.{droplet, readCheck}
@@ -88,6 +91,17 @@ module _ (c : Card) (weights : List ℕ) where
     pub chained : Chained c weights lent 0 calls
     pub printed : LegalPrinted file (readsOf calls)
 
+  -- the customer's file of F bytes, dealt by a call: the first F bytes of what it leaves are the file that the writer is handed
+  pub record Dealt (customers file : List ℕ) : Type 0 where
+    pub size : length customers ≡ c .f
+    pub bytes : AllBytes customers
+    pub target : List ℕ
+    pub space : c .f ≤ length target
+    pub answer : ReorderAnswer
+    pub target′ : List ℕ
+    pub promise : InterleavePromise c weights customers target answer target′
+    pub handed : file ≡ take (c .f) target′
+
   -- a restore over a store, not refused: it answers a sheet, and leaves a file and marks
   pub record SheetFrom (store : LentStore) (r : Sheet) (file′ marks′ : List ℕ) : Type 0 where
     pub file : List ℕ
@@ -102,12 +116,18 @@ module _ (c : Card) (weights : List ℕ) where
   pub record RightSheet (file : List ℕ) (r : Sheet) (file′ marks′ : List ℕ) : Type 0 where
     -- it counts the segments present
     pub counted : r .present ≡ present (segmentCount c) marks′
-    -- each segment present is the customer's
+    -- each segment present is the file's
     pub right : (i : ℕ) → i < segmentCount c → marked marks′ i ≡ true → segment (c .l) file′ i ≡ segment (c .l) file i
     -- no record contradicts them
     pub agrees : r .contradictions ≡ 0
-    -- with all present, the customer's file is back
+    -- with all present, the file is back
     pub whole : r .present ≡ segmentCount c → take (c .f) file′ ≡ file
+
+  -- a call that undeals what a restore left, with all present and space for F bytes: it is done, and the customer's bytes are back
+  abbrev pub Undealt : List ℕ → List ℕ → Type 0
+  Undealt customers file′ =
+      (buffer : List ℕ) (answer : ReorderAnswer) (buffer′ : List ℕ) → DeinterleavePromise c weights file′ buffer answer buffer′
+      → c .f ≤ length buffer → (reorderAnswer answer ≡ done) × (take (c .f) buffer′ ≡ customers)
 
   -- what any restore of one store leaves present, any restore of another leaves present too
   abbrev pub NoBetter : LentStore → LentStore → Type 0
@@ -122,6 +142,8 @@ module _ (c : Card) (weights : List ℕ) where
       → take (segmentCount c) marks ≡ take (segmentCount c) marks′
 
   pub record Vault : Type 0 where
+    -- dealing the customer's file is done, and gives a file of F bytes
+    pub dealt : (customers file : List ℕ) (d : Dealt customers file) → (reorderAnswer (d .answer) ≡ done) × (length file ≡ c .f) × AllBytes file
     -- such jobs exist, for every list of reads of which the legal ones are strands of the file
     pub jobs : (file lent : List ℕ) (reads : List (List ℕ)) → length file ≡ c .f → AllBytes file → LegalPrinted file reads
         → (calls : List Call) × Job file lent calls × (readsOf calls ≡ reads)
@@ -135,6 +157,9 @@ module _ (c : Card) (weights : List ℕ) where
     -- every sheet that is restored from the store is right
     pub back : (file lent : List ℕ) (calls : List Call) → Job file lent calls
         → (r : Sheet) (file′ marks′ : List ℕ) → SheetFrom (storeAfter lent calls) r file′ marks′ → RightSheet file r file′ marks′
+    -- and with all present, undealing what was restored gives the customer's file
+    pub undealt : (customers file lent : List ℕ) (calls : List Call) → Dealt customers file → Job file lent calls
+        → (r : Sheet) (file′ marks′ : List ℕ) → SheetFrom (storeAfter lent calls) r file′ marks′ → r .present ≡ segmentCount c → Undealt customers file′
     -- more reads never hurt, where there is room for them
     pub more-reads : (file lent lent′ : List ℕ) (calls calls′ : List Call) → Job file lent calls → Job file lent′ calls′
         → RoomForAll lent′ calls′ → AllAmong (legalOf calls) (legalOf calls′) → NoBetter (storeAfter lent calls) (storeAfter lent′ calls′)

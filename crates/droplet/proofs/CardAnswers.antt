@@ -13,7 +13,7 @@ use Rattle.droplet.specs.declared.card.PlanAnswer.{PlanAnswer}
 use Rattle.droplet.specs.declared.card.PlanAnswer.the-variants as planning
 use Rattle.droplet.specs.declared.card.CardAnswer.{CardAnswer}
 use Rattle.droplet.specs.declared.card.CardAnswer.the-variants as reading
-use Rattle.droplet.specs.PoolCard.{weightsStart, wellFormed, cardNumbers, cardWeights, weightCount, weightSum, segmentCount}
+use Rattle.droplet.specs.PoolCard.{weightsEnd, wellFormed, cardNumbers, cardWeights, weightCount, weightSum, segmentCount}
 use Rattle.droplet.specs.Questions.{CardRead, cardRefusal, planAnswer, planOf, cardReadingRefusal, cardAnswer, cardReading}
 use Rattle.droplet.specs.Questions.Planned.{planned, refused}
 use Rattle.droplet.specs.Questions.CardRead.{accepted}
@@ -47,7 +47,7 @@ apart e = omega arith
 
 -- ---- check_plan
 
--- the questions 2 to 4 let the card pass: K, D and the sum are k, d and s
+-- the questions 2 to 4 and 27 let the card pass: K, D and the sum are k, d and s
 pub record Passed (card : Card) (ws : List ℕ) (k d s : ℕ) : Type 0 where
   pub unrefused : cardRefusal card ws ≡ 0
   pub legal : Legal card ws
@@ -84,7 +84,7 @@ module _ (card : Card) (ws : List ℕ) where
 
 -- the card reader accepts these bytes, with the card's numbers and D
 pub record Accepted (bytes : List ℕ) (card : Card) (d : ℕ) : Type 0 where
-  pub long : weightsStart ≤ length bytes
+  pub long : weightsEnd bytes ≤ length bytes
   pub reader-unrefused : cardReadingRefusal bytes ≡ 0
   pub unrefused : cardRefusal card (cardWeights bytes) ≡ 0
   pub numbers : card ≡ cardNumbers bytes

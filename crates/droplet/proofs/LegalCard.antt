@@ -1,5 +1,5 @@
--- What a caller knows of a card and its weights that the questions 2 to 4 do not refuse. Assumes nothing.
-use mathlib.Core.Path.{_≡_, refl}
+-- What a caller knows of a card and its weights that the questions 2 to 4 and 27 do not refuse. Assumes nothing.
+use mathlib.Core.Path.{_≡_, refl, sym, _∙_}
 use mathlib.Core.Bool.{Bool, true, false, _&&_, _||_}
 use mathlib.Core.List.{List}
 use mathlib.Core.Logic.{inl, inr}
@@ -10,10 +10,9 @@ use lib.Dec.{eqb, leb}
 use lib.ListN.{length}
 use borrow.Author.Tests.{leb-true, eqb-true}
 use Rattle.field.specs.CheckBytes.{CheckCount}
-use Rattle.field.proofs.Tests.{either}
 use Rattle.droplet.specs.declared.card.Card.{Card}
 use Rattle.droplet.specs.PoolCard.{weightCount, weightSum, segmentCount, strandBytes}
-use Rattle.droplet.specs.Questions.{within, sizesRight, limitsRight, weightsRight, cardRefusal}
+use Rattle.droplet.specs.Questions.{within, sizesRight, limitsRight, weightsRight, widthRight, cardRefusal}
 use Rattle.droplet.proofs.Conjunctions.{and-true, within-true}
 
 -- ---- question 2
@@ -145,29 +144,63 @@ weights-true c ws e =
       sum-most = bounds .1;
     }
 
--- ---- the three together
+-- ---- question 27
+
+pub record Width (c : Card) : Type 0 where
+  pub width-least : 2 ≤ c .width
+  pub width-most : c .width ≤ c .f
+
+pub width-true : (c : Card) → widthRight c ≡ true → c .interleaved ≡ true → Width c
+unfolding widthRight
+width-true c e there =
+    let bounds = within-true 2 (c .width) (c .f) (rw there at e) in
+    record { width-least = bounds .0; width-most = bounds .1 }
+
+-- ---- the four together
 
 pub record Legal (c : Card) (ws : List ℕ) : Type 0 where
   pub sizes : Sizes c
   pub limits : Limits c
   pub weights : Weights c ws
+  pub width : c .interleaved ≡ true → Width c
 
 -- a refusal has a number other than 0
 pub no-number : {n : ℕ} → suc n ≡ 0 → ⊥
 no-number e = omega arith
 
+-- each answer of the questions, in their order
+module _ (c : Card) (ws : List ℕ) where
+  pub says-2 : sizesRight c ≡ false → cardRefusal c ws ≡ 2
+  unfolding cardRefusal
+  says-2 two = rw two
+
+  module _ (two : sizesRight c ≡ true) where
+    pub says-3 : limitsRight c ≡ false → cardRefusal c ws ≡ 3
+    unfolding cardRefusal
+    says-3 three = rw (two, three)
+
+    module _ (three : limitsRight c ≡ true) where
+      pub says-4 : weightsRight c ws ≡ false → cardRefusal c ws ≡ 4
+      unfolding cardRefusal
+      says-4 four = rw (two, three, four)
+
+      module _ (four : weightsRight c ws ≡ true) where
+        pub says-27 : widthRight c ≡ false → cardRefusal c ws ≡ 27
+        unfolding cardRefusal
+        says-27 last = rw (two, three, four, last)
+
+        pub says-nothing : widthRight c ≡ true → cardRefusal c ws ≡ 0
+        unfolding cardRefusal
+        says-nothing last = rw (two, three, four, last)
+
 pub legal : (c : Card) (ws : List ℕ) → cardRefusal c ws ≡ 0 → Legal c ws
-unfolding cardRefusal
 legal c ws e =
-    elim (either (sizesRight c)) [
-      | inl s ↦
-          elim (either (limitsRight c)) [
-            | inl l ↦
-                elim (either (weightsRight c ws)) [
-                  | inl w ↦ record { sizes = sizes-true c s; limits = limits-true c l; weights = weights-true c ws w }
-                  | inr w ↦ absurd (no-number (simp (s, l, w) at e))
-                ]
-            | inr l ↦ elim (either (weightsRight c ws)) [ inl w ↦ absurd (no-number (simp (s, l, w) at e)) | inr w ↦ absurd (no-number (simp (s, l, w) at e)) ]
-          ]
-      | inr s ↦ absurd (no-number (simp s at e))
-    ]
+    let two = yes (sizesRight c) (λ two-no. sym (says-2 c ws two-no) ∙ e) in
+    let three = yes (limitsRight c) (λ three-no. sym (says-3 c ws two three-no) ∙ e) in
+    let four = yes (weightsRight c ws) (λ four-no. sym (says-4 c ws two three four-no) ∙ e) in
+    let last = yes (widthRight c) (λ last-no. sym (says-27 c ws two three four last-no) ∙ e) in
+    record { sizes = sizes-true c two; limits = limits-true c three; weights = weights-true c ws four; width = width-true c last }
+  where
+    yes : (b : Bool) {n : ℕ} → (b ≡ false → suc n ≡ 0) → b ≡ true
+    yes true stop = refl
+    yes false stop = absurd (no-number (stop refl))

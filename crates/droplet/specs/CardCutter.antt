@@ -1,4 +1,4 @@
--- Document 02, Item 2, "A card cutter": the questions of the call, what it answers and what it leaves in the lent buffer. Assumes nothing.
+-- Document 02, Item 2, "A card cutter", with the field of Item 14: the questions of the call, what it answers and what it leaves in the lent buffer. Assumes nothing.
 use mathlib.Core.Path.{_≡_}
 use mathlib.Core.Bool.{cond}
 use mathlib.Core.List.{List, _++_}
@@ -34,7 +34,7 @@ cutBuffer (ended a b) = b
 abbrev pub writtenCard : List ℕ → List ℕ → CutEnd
 writtenCard card buffer = ended (cut (length card)) (card ++ drop (length card) buffer)
 
--- "Questions 2 to 4 come first, and a buffer too short for the card is then refused as 19"
+-- "Questions 2 to 4 come first" (27 "right after"), "and a buffer too short for the card is then refused as 19"
 unfoldable pub cutCard : Card → List ℕ → List ℕ → CutEnd
 cutCard c weights buffer =
     cond (eqb (cardRefusal c weights) 0)

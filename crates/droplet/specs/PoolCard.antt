@@ -1,9 +1,9 @@
--- Document 01, "Pool card": the card's fields, the numbers that it holds, and the lengths that follow from them.
--- Assumes nothing.
-use mathlib.Core.Bool.{Bool, _&&_}
+-- Document 01, "Pool card", with the field of document 02, Item 14: the card's fields, the numbers that it holds, and the lengths
+-- that follow from them. Assumes nothing.
+use mathlib.Core.Bool.{Bool, cond, _&&_}
 use mathlib.Core.List.{List, [], _∷_, _++_}
 use Prim.Native.Nat.{ℕ, zero, suc, _+_, _-_, _*_, _/_, _%_}
-use lib.Dec.{eqb}
+use lib.Dec.{eqb, leb}
 use lib.ListN.{length, take, drop}
 use Rattle.field.specs.Bytes.{fromBigEndian, toBigEndian, sameBytes}
 use Rattle.droplet.specs.declared.card.Card.{Card}
@@ -22,17 +22,29 @@ toTwoBytes n = n / 256 ∷ n % 256 ∷ []
 unfoldable pub fieldBytes : ℕ → List ℕ → List ℕ
 fieldBytes tag content = tag ∷ (toTwoBytes (length content) ++ content)
 
--- the bytes of a card, "three fields, in this order": tag 1 with F, L and R, tag 2 with m, lo and hi, tag 3 with the weights
+-- "A card may carry a fourth field, tag 4, length 4: the width W": its bytes, if the card has it
+unfoldable pub widthField : Card → List ℕ
+widthField c = cond (c .interleaved) (fieldBytes 4 (toBigEndian (c .width))) []
+
+-- the bytes of a card, "three fields, in this order": tag 1 with F, L and R, tag 2 with m, lo and hi, tag 3 with the weights; and
+-- the fourth
 unfoldable pub cardBytes : Card → List ℕ → List ℕ
 cardBytes c weights =
     fieldBytes 1 (toBigEndian (c .f) ++ (c .l ∷ c .r ∷ []))
-    ++ (fieldBytes 2 (c .m ∷ (toTwoBytes (c .lo) ++ toTwoBytes (c .hi))) ++ fieldBytes 3 weights)
+    ++ (fieldBytes 2 (c .m ∷ (toTwoBytes (c .lo) ++ toTwoBytes (c .hi))) ++ (fieldBytes 3 weights ++ widthField c))
 
--- where the weights stand, "its first byte being byte 0"
+-- where the weights stand, "its first byte being byte 0", and where they end
 abbrev pub weightsStart : ℕ
 weightsStart = 20
 
--- the numbers at their places in a card, and the bytes of its weights
+unfoldable pub weightsEnd : List ℕ → ℕ
+weightsEnd card = weightsStart + numberAt 18 2 card
+
+-- the seven bytes of a fourth field stand behind the weights
+unfoldable pub widthThere : List ℕ → Bool
+widthThere card = leb (weightsEnd card + 7) (length card)
+
+-- the numbers at their places in a card, W "0 without" the field
 unfoldable pub cardNumbers : List ℕ → Card
 cardNumbers card = record {
   f = numberAt 3 4 card;
@@ -41,13 +53,29 @@ cardNumbers card = record {
   m = numberAt 12 1 card;
   lo = numberAt 13 2 card;
   hi = numberAt 15 2 card;
+  interleaved = widthThere card;
+  width = cond (widthThere card) (numberAt (weightsEnd card + 3) 4 card) 0;
 }
 
-abbrev pub cardWeights : List ℕ → List ℕ
-cardWeights card = drop weightsStart card
+-- the numbers that a card gives back: one without the field "reads back with W 0", whatever W was handed
+unfoldable pub carried : Card → Card
+carried c = record {
+  f = c .f;
+  l = c .l;
+  r = c .r;
+  m = c .m;
+  lo = c .lo;
+  hi = c .hi;
+  interleaved = c .interleaved;
+  width = cond (c .interleaved) (c .width) 0;
+}
 
--- "tags 1, 2, 3 whole, lengths 6, 5 and a multiple of 4, nothing after": the bytes of the card of its own numbers and weights
--- (field by field: `WellFormedIs` in CardFields)
+-- the bytes of its weights
+abbrev pub cardWeights : List ℕ → List ℕ
+cardWeights card = take (numberAt 18 2 card) (drop weightsStart card)
+
+-- "tags 1, 2, 3 whole, lengths 6, 5 and a multiple of 4, nothing after", but the fourth field, which "question 1 allows": the bytes of
+-- the card of its own numbers and weights (field by field: `WellFormedIs` in CardFields)
 unfoldable pub wellFormed : List ℕ → Bool
 wellFormed card = sameBytes card (cardBytes (cardNumbers card) (cardWeights card)) && eqb (length (cardWeights card) % 4) 0
 

@@ -1,5 +1,5 @@
--- Document 01, "Questions in their order": 1 to 4. "The first no gives the number." Assumes nothing.
-use mathlib.Core.Bool.{Bool, cond, _&&_, _||_}
+-- Document 01, "Questions in their order": 1 to 4, and 27 of document 02, Item 14. "The first no gives the number." Assumes nothing.
+use mathlib.Core.Bool.{Bool, true, cond, _&&_, _||_}
 use mathlib.Core.List.{List}
 use Prim.Native.Nat.{ℕ, _%_}
 use lib.Dec.{eqb, leb}
@@ -30,11 +30,16 @@ weightsRight c weights =
     eqb (length weights % 4) 0 && leb 1 (weightCount weights) && leb (weightCount weights) (segmentCount c) && leb (weightCount weights) 1024
     && within 1 (weightSum weights) 4294967295
 
--- the number of the first of the questions 2 to 4 that says no, or 0: every call but the card reader starts with these
-unfoldable pub cardRefusal : Card → List ℕ → ℕ
-cardRefusal c weights = cond (sizesRight c) (cond (limitsRight c) (cond (weightsRight c weights) 0 4) 3) 2
+-- 27: "a W below 2 or above F is refused"; a call "checks W only if it is there"
+unfoldable pub widthRight : Card → Bool
+widthRight c = cond (c .interleaved) (within 2 (c .width) (c .f)) true
 
--- what questions 2 to 4 answer: the refusal number, or K, D and the weights' sum
+-- the number of the first of the questions 2 to 4 and 27 ("right after question 4 in every call") that says no, or 0: every call but the
+-- card reader starts with these
+unfoldable pub cardRefusal : Card → List ℕ → ℕ
+cardRefusal c weights = cond (sizesRight c) (cond (limitsRight c) (cond (weightsRight c weights) (cond (widthRight c) 0 27) 4) 3) 2
+
+-- what they answer: the refusal number, or K, D and the weights' sum
 pub data Planned : Type 0 where
   planned : ℕ → ℕ → ℕ → Planned
   refused : ℕ → Planned
@@ -48,11 +53,11 @@ planOf c weights =
     cond (eqb (cardRefusal c weights) 0) (planned (segmentCount c) (weightCount weights) (weightSum weights))
     (refused (cardRefusal c weights))
 
--- the questions 1 to 4 of the card reader
+-- the questions of the card reader: 1, and those
 unfoldable pub cardReadingRefusal : List ℕ → ℕ
 cardReadingRefusal card = cond (wellFormed card) (cardRefusal (cardNumbers card) (cardWeights card)) 1
 
--- what the card reader answers: the refusal number, or F, L, R, m, lo, hi and D
+-- what the card reader answers: the refusal number, or F, L, R, m, lo, hi, "whether the field is there, and W", and D
 pub data CardRead : Type 0 where
   accepted : Card → ℕ → CardRead
   refused : ℕ → CardRead

@@ -2,15 +2,18 @@ ghost use mathlib.Core.Path.{_≡_};
 ghost use mathlib.Core.Bool.{cond, _||_};
 ghost use Prim.Native.Nat.{_+_, _*_, _≤_, _<_};
 ghost use lib.Dec.{eqb};
-ghost use lib.ListN.{length, take};
-ghost use Rattle.droplet.specs.PoolCard.{numberAt, toTwoBytes, cardBytes, weightsStart, cardNumbers, wellFormed, weightSum, segmentCount, strandBytes, basesOf, bytesOf};
-ghost use Rattle.droplet.specs.Questions.{within, sizesRight, limitsRight, weightsRight, planAnswer, planOf, cardAnswer, cardReading};
+ghost use mathlib.Core.List.{_++_};
+ghost use lib.ListN.{length, take, drop};
+ghost use Rattle.field.specs.Bytes.{toBigEndian, sameBytes};
+ghost use Rattle.droplet.specs.PoolCard.{numberAt, toTwoBytes, fieldBytes, widthField, cardBytes, weightsStart, weightsEnd, widthThere, cardNumbers, cardWeights, wellFormed, weightSum, segmentCount, strandBytes, basesOf, bytesOf};
+ghost use Rattle.droplet.specs.Questions.{within, sizesRight, limitsRight, weightsRight, widthRight, planAnswer, planOf, cardAnswer, cardReading};
 use crate::weights;
+use field::bytes::copy;
 use field::bytes::join;
 use field::bytes::split;
 use field::bytes::starts_with;
 
-// The numbers of a pool card: F, L, R, m, lo and hi.
+// The numbers of a pool card: F, L, R, m, lo and hi; whether its file is interleaved (dealt), and the width W.
 pub struct Card {
     pub f: u32,
     pub l: u8,
@@ -18,6 +21,8 @@ pub struct Card {
     pub m: u8,
     pub lo: u16,
     pub hi: u16,
+    pub interleaved: bool,
+    pub width: u32,
 }
 
 // What the questions 2 to 4 learn on the way: K, D and the sum of the weights.
@@ -130,7 +135,17 @@ fn right_sum(card: Card, weights: &[u8]) -> u32
     sum as u32
 }
 
-// The questions 2 to 4, with which every call but the card reader starts.
+// Question 27. Without the field any width will do.
+fn width_right(card: Card) -> bool
+    ensures { λ r. ⌜ r ≡ widthRight card ⌝ }
+{
+    if card.interleaved {
+        return within(2, card.width, card.f);
+    }
+    true
+}
+
+// The questions 2 to 4 and 27, with which every call but the card reader starts.
 pub fn check_plan(card: Card, weights: &[u8]) -> PlanAnswer
     ensures { λ r. ⌜ planAnswer r ≡ planOf card (now (weights .entry)) ⌝ }
 {
@@ -140,11 +155,14 @@ pub fn check_plan(card: Card, weights: &[u8]) -> PlanAnswer
             if sum == 0 {
                 return PlanAnswer::Refused(4);
             }
-            return PlanAnswer::Ready(Plan {
-                segments: segment_count(card),
-                degrees: (weights.len() / 4) as u32,
-                sum,
-            });
+            if width_right(card) {
+                return PlanAnswer::Ready(Plan {
+                    segments: segment_count(card),
+                    degrees: (weights.len() / 4) as u32,
+                    sum,
+                });
+            }
+            return PlanAnswer::Refused(27);
         }
         return PlanAnswer::Refused(3);
     }
@@ -166,18 +184,48 @@ fn two_bytes(bytes: &[u8], at: usize) -> u16
     join_two(bytes[at], bytes[at + 1])
 }
 
-// The contents of the first two fields, past their tags and lengths.
+// The number in the four bytes from a place on.
+fn four_bytes(bytes: &[u8], at: usize) -> u32
+    requires { ⌜ at + 4 ≤ length (now bytes) ⌝ }
+    ensures { λ r. ⌜ r ≡ numberAt at 4 (now (bytes .entry)) ⌝ }
+{
+    join(bytes[at], bytes[at + 1], bytes[at + 2], bytes[at + 3])
+}
+
+// Where the weights end, by the length of the third field.
+pub fn weights_end(bytes: &[u8]) -> usize
+    requires { ⌜ 20 ≤ length (now bytes) ⌝ }
+    ensures { λ r. ⌜ (r ≡ weightsEnd (now (bytes .entry))) × (r ≤ 65555) ⌝ }
+{
+    20 + two_bytes(bytes, 18) as usize
+}
+
+// The width, if a fourth field stands behind the weights.
+fn card_width(bytes: &[u8], end: usize) -> u32
+    requires { ⌜ (end ≡ weightsEnd (now bytes)) × (end ≤ 65555) ⌝ }
+    ensures { λ r. ⌜ r ≡ cond (widthThere (now (bytes .entry))) (numberAt (weightsEnd (now (bytes .entry)) + 3) 4 (now (bytes .entry))) 0 ⌝ }
+{
+    if bytes.len() < end + 7 {
+        return 0;
+    }
+    four_bytes(bytes, end + 3)
+}
+
+// The contents of the first two fields, past their tags and lengths, and that of the fourth.
 fn card_numbers(bytes: &[u8]) -> Card
     requires { ⌜ 20 ≤ length (now bytes) ⌝ }
     ensures { λ r. ⌜ r ≡ cardNumbers (now (bytes .entry)) ⌝ }
 {
+    let end = weights_end(bytes);
     Card {
-        f: join(bytes[3], bytes[4], bytes[5], bytes[6]),
+        f: four_bytes(bytes, 3),
         l: bytes[7],
         r: bytes[8],
         m: bytes[12],
         lo: two_bytes(bytes, 13),
         hi: two_bytes(bytes, 15),
+        interleaved: end + 7 <= bytes.len(),
+        width: card_width(bytes, end),
     }
 }
 
@@ -222,20 +270,69 @@ pub fn card_head(card: Card, weights: &[u8]) -> [u8; 20]
     ]
 }
 
-// Question 1. A card is well-formed if it starts as the card of its own numbers and weights does: the length of the third field is
-// then what is left, so that nothing stands after it. What two bytes cannot say is no length.
+// The fourth field: tag 4, length 4, and the width.
+fn width_bytes(width: u32) -> [u8; 7]
+    ensures { λ r. ⌜ r ≡ fieldBytes 4 (toBigEndian width) ⌝ }
+{
+    let w = split(width);
+    [4, 0, 4, w[0], w[1], w[2], w[3]]
+}
+
+// How many bytes a card has behind its weights.
+pub fn width_length(card: Card) -> usize
+    ensures { λ r. ⌜ r ≡ length (widthField card) ⌝ }
+{
+    if card.interleaved {
+        return 7;
+    }
+    0
+}
+
+// Writes what a card has behind its weights.
+pub fn put_width(card: Card, out: &mut [u8])
+    requires { ⌜ length (widthField card) ≤ length (now out) ⌝ }
+    ensures { λ _. ⌜ now (out .exit) ≡ widthField card ++ drop (length (widthField card)) (now (out .entry)) ⌝ }
+{
+    if card.interleaved {
+        copy(&width_bytes(card.width), out);
+    }
+}
+
+// Whether these bytes are what a card has behind its weights.
+fn is_width(card: Card, bytes: &[u8]) -> bool
+    ensures { λ r. ⌜ r ≡ sameBytes (now (bytes .entry)) (widthField card) ⌝ }
+{
+    if bytes.len() != width_length(card) {
+        return false;
+    }
+    if card.interleaved {
+        return starts_with(bytes, &width_bytes(card.width));
+    }
+    true
+}
+
+// Whether these bytes are the card of these numbers and of the weights in it, which end at `end`: what stands before the weights and
+// what stands behind them decides.
+fn is_card(card: Card, bytes: &[u8], end: usize) -> bool
+    requires { ⌜ (end ≡ weightsEnd (now bytes)) × (end ≤ 65555) × (end ≤ length (now bytes)) ⌝ }
+    ensures { λ r. ⌜ r ≡ sameBytes (now (bytes .entry)) (cardBytes card (cardWeights (now (bytes .entry)))) ⌝ }
+{
+    let head = card_head(card, &bytes[20..end]);
+    starts_with(bytes, &head) && is_width(card, &bytes[end..])
+}
+
+// Question 1. A card is well-formed if it is the card of its own numbers and weights.
 fn well_formed(bytes: &[u8]) -> bool
     ensures { λ r. ⌜ r ≡ wellFormed (now (bytes .entry)) ⌝ }
 {
     if bytes.len() < 20 {
         return false;
     }
-    let size = bytes.len() - 20;
-    if 65535 < size {
+    let end = weights_end(bytes);
+    if bytes.len() < end {
         return false;
     }
-    let head = card_head(card_numbers(bytes), &bytes[20..]);
-    starts_with(bytes, &head) && size % 4 == 0
+    is_card(card_numbers(bytes), bytes, end) && (end - 20) % 4 == 0
 }
 
 // The card reader. The weights stand from byte 20 on.
@@ -244,7 +341,8 @@ pub fn read_card(bytes: &[u8]) -> CardAnswer
 {
     if well_formed(bytes) {
         let card = card_numbers(bytes);
-        return match check_plan(card, &bytes[20..]) {
+        let end = weights_end(bytes);
+        return match check_plan(card, &bytes[20..end]) {
             PlanAnswer::Ready(plan) => CardAnswer::Accepted(card, plan.degrees),
             PlanAnswer::Refused(n) => CardAnswer::Refused(n),
         };

@@ -3,6 +3,7 @@ pub mod Fold
 pub mod Xor
 pub mod ByteLists
 pub mod SameBytes
+pub mod LentParts
 pub mod BigEndian
 pub mod Words
 pub mod Schedule

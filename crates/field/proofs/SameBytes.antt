@@ -1,6 +1,6 @@
--- The comparison of two lists of bytes says yes exactly of equal lists, and what follows both alike does not count. Assumes nothing.
-use mathlib.Core.Path.{_≡_, refl, ap, ap₂}
-use mathlib.Core.Bool.{true, false≢true, _&&_}
+-- The comparison of two lists of bytes says yes exactly of equal lists, and two parts are compared one after the other. Assumes nothing.
+use mathlib.Core.Path.{_≡_, refl, sym, ap, ap₂}
+use mathlib.Core.Bool.{true, false, false≢true, _&&_}
 use mathlib.Core.List.{List, [], _∷_, _++_}
 use mathlib.Core.Logic.{inl, inr}
 use Prim.Native.Nat.{ℕ}
@@ -27,9 +27,13 @@ unfolding sameBytes
 eq-same [] = refl
 eq-same (x ∷ xs) = rw (eq-eqb x x refl) (eq-same xs)
 
-pub same-append : (xs ys rest : List ℕ) → length xs ≡ length ys → sameBytes (xs ++ rest) (ys ++ rest) ≡ sameBytes xs ys
+pub same-append : (xs ys us vs : List ℕ) → length xs ≡ length ys → sameBytes (xs ++ us) (ys ++ vs) ≡ (sameBytes xs ys && sameBytes us vs)
 unfolding sameBytes
-same-append [] [] rest e = eq-same rest
-same-append [] (y ∷ ys) rest e = absurd (let z : ⊥ = omega arith in z)
-same-append (x ∷ xs) [] rest e = absurd (let z : ⊥ = omega arith in z)
-same-append (x ∷ xs) (y ∷ ys) rest e = ap (_&&_ (eqb x y)) (same-append xs ys rest (omega arith))
+same-append [] [] us vs e = refl
+same-append [] (y ∷ ys) us vs e = absurd (let z : ⊥ = omega arith in z)
+same-append (x ∷ xs) [] us vs e = absurd (let z : ⊥ = omega arith in z)
+same-append (x ∷ xs) (y ∷ ys) us vs e =
+    elim (either (eqb x y)) [ inl t ↦ rw t (same-append xs ys us vs (omega arith)) | inr t ↦ rw t ]
+
+pub same-length : (xs ys : List ℕ) → (length xs ≡ length ys → ⊥) → false ≡ sameBytes xs ys
+same-length xs ys h = elim (either (sameBytes xs ys)) [ inl t ↦ absurd (h (ap length (same-eq xs ys t))) | inr t ↦ sym t ]

@@ -8,7 +8,7 @@ use Rattle.field.specs.Bytes.{All, fromBigEndian, toBigEndian, sameBytes}
 use Rattle.field.specs.Shift.{shiftUp}
 use Rattle.field.specs.CheckBytes.{double, timesPower, horner, syndromes}
 use Rattle.droplet.specs.PoolCard.{numberAt, weightAt, firstWeights, segmentCount, strandBytes}
-use Rattle.droplet.specs.Questions.{sizesRight, limitsRight, weightsRight, cardRefusal}
+use Rattle.droplet.specs.Questions.{sizesRight, limitsRight, weightsRight, widthRight, cardRefusal}
 use Rattle.strand.specs.Letters.{letterBits, textLetters, lettersBases, allLetters, byteBases, wordBases, lettersByte, lettersWord}
 use Rattle.strand.specs.Sites.{siteBefore, siteAfter}
 use Rattle.strand.specs.Screen.{orderOf, withBase, longestOf, longestRun, gcCount, measureOf, verdict, wordVerdict, screenPasses}
@@ -49,5 +49,5 @@ rows =
     ∷ []
 
 pub examples : All Holds rows
-unfolding lastLine linesFrom afterAnswer afterLine listing toBigEndian fromBigEndian timesPower double shiftUp horner syndromes cardRefusal sizesRight limitsRight weightsRight segmentCount strandBytes firstWeights weightAt numberAt letterBits allLetters byteBases wordBases lettersByte lettersWord textLetters lettersBases siteBefore siteAfter orderOf withBase longestOf longestRun gcCount measureOf verdict wordVerdict screenPasses sumsZero wordReading lettersReading readCheck recordBytes recordText recordPayload recordFrom records sameBytes findSeed appended compared storeReading storeRead
+unfolding lastLine linesFrom afterAnswer afterLine listing toBigEndian fromBigEndian timesPower double shiftUp horner syndromes cardRefusal sizesRight limitsRight weightsRight widthRight segmentCount strandBytes firstWeights weightAt numberAt letterBits allLetters byteBases wordBases lettersByte lettersWord textLetters lettersBases siteBefore siteAfter orderOf withBase longestOf longestRun gcCount measureOf verdict wordVerdict screenPasses sumsZero wordReading lettersReading readCheck recordBytes recordText recordPayload recordFrom records sameBytes findSeed appended compared storeReading storeRead
 examples = (refl, (refl, (refl, (refl, (refl, (refl, (refl, (refl, tt))))))))

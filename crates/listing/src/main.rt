@@ -13,6 +13,7 @@ use droplet::card::Card;
 use droplet::card::CardAnswer;
 use droplet::card::read_card;
 use droplet::card::segment_count;
+use droplet::card::weights_end;
 use input::list_reads;
 use libc::STDOUT_FILENO;
 use tally::Tally;
@@ -102,7 +103,8 @@ fn run(
         CardAnswer::Accepted(card, _) => {
             let k = segment_count(card);
             if k * (card.l as u32) <= 32768 {
-                list_pool(card, k, &bytes[20..], chunk, line, store, file, marks, list);
+                let weights = &bytes[20..weights_end(bytes)];
+                list_pool(card, k, weights, chunk, line, store, file, marks, list);
             } else {
                 io::write_all(STDOUT_FILENO, b"card too large\n");
             }

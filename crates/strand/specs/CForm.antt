@@ -1,11 +1,16 @@
 -- Document 01, "Shelf": "The read check's C form takes the same inputs and a lent buffer." Assumes nothing.
-use mathlib.Core.Bool.{cond}
+use mathlib.Core.Bool.{cond, not}
 use mathlib.Core.List.{List, _++_}
 use Prim.Native.Nat.{ℕ, _+_}
-use lib.Dec.{leb}
+use lib.Dec.{eqb, leb}
 use lib.ListN.{length, drop}
 use Rattle.field.specs.Bytes.{toBigEndian}
+use Rattle.droplet.specs.declared.card.Card.{Card}
 use Rattle.strand.specs.ReadCheck.{Reading, droplet, refused}
+
+-- the card of the numbers that a C host hands over: the fourth field is there unless `dealt` is 0
+abbrev pub handedCard : ℕ → ℕ → ℕ → ℕ → ℕ → ℕ → ℕ → ℕ → Card
+handedCard f l r m lo hi dealt width = record { f = f; l = l; r = r; m = m; lo = lo; hi = hi; interleaved = not (eqb dealt 0); width = width }
 
 -- the number returned, and the lent buffer after it
 pub data CAnswer : Type 0 where

@@ -3,7 +3,7 @@ ghost use Prim.Native.Nat.{_≤_};
 ghost use lib.ListN.{length, take};
 ghost use Rattle.strand.specs.ReadCheck.{readCheck};
 ghost use Rattle.strand.specs.ReadCheck.Reading.{droplet};
-ghost use Rattle.strand.specs.CForm.{handedOver};
+ghost use Rattle.strand.specs.CForm.{handedCard, handedOver};
 ghost use Rattle.strand.specs.CForm.CAnswer.{handed};
 use crate::droplet_bytes;
 use crate::read_check;
@@ -31,14 +31,27 @@ pub extern "C" fn fountain_check_read(
     m: u8,
     lo: u16,
     hi: u16,
+    dealt: u8,
+    width: u32,
     weights: &[u8],
     read: &[u8],
     out: &mut [u8],
 ) -> u32
     ensures { λ n. ⌜ handed n (now (out .exit)) ≡ handedOver l (now (out .entry))
-        (readCheck (record { f = f; l = l; r = r; m = m; lo = lo; hi = hi }) (now (weights .entry)) (now (read .entry))) ⌝ }
+        (readCheck (handedCard f l r m lo hi dealt width) (now (weights .entry)) (now (read .entry))) ⌝ }
 {
-    let answer = read_check::check_read(Card { f, l, r, m, lo, hi }, weights, read);
+    let interleaved = dealt != 0;
+    let card = Card {
+        f,
+        l,
+        r,
+        m,
+        lo,
+        hi,
+        interleaved,
+        width,
+    };
+    let answer = read_check::check_read(card, weights, read);
     let outcome = answer.outcome;
     let payload = answer.payload;
     match outcome {

@@ -46,6 +46,8 @@ fn bench_card() -> Card {
         m: 15,
         lo: 214,
         hi: 1000,
+        interleaved: false,
+        width: 0,
     }
 }
 

@@ -2,7 +2,8 @@
 //!
 //!   check-read-cases COUNT FOLDER
 //!
-//! FOLDER/cases: a case a line, F L R m lo hi weights read out, the last three in hex; '-' stands for NULL and '.' for no bytes.
+//! FOLDER/cases: a case a line, F L R m lo hi dealt width weights read out, the last three in hex; '-' stands for NULL and '.' for
+//! no bytes.
 //! FOLDER/cases.expected: the number returned, and the out buffer after the call in hex, '-' if it has no bytes.
 //! FOLDER/card, reads and reads.expected: a pool card, a read a line, and what the C host prints for each.
 
@@ -39,6 +40,7 @@ fn write_cases(count: u64, folder: &Path) -> Result<(), Error> {
         let case = Case::any(&mut random);
         let n = &case.numbers;
         cases += &format!("{} {} {} {} {} {}", n.f, n.l, n.r, n.m, n.lo, n.hi);
+        cases += &format!(" {} {}", n.dealt, n.width);
         for bytes in [&n.weights, &case.read, &case.out] {
             let none = random.one_of(&["-", "."]);
             cases += &format!(" {}", hex_or(bytes, none));
@@ -51,11 +53,12 @@ fn write_cases(count: u64, folder: &Path) -> Result<(), Error> {
     fs::write(folder.join("cases.expected"), expected)
 }
 
-/// Reads under one card. One that has a newline in it cannot stand on a line.
+/// Reads under one card, which has a fourth field. A read that has a newline in it cannot stand on a line.
 fn write_reads(count: u64, folder: &Path) -> Result<(), Error> {
     let mut random = Random::of_case("reads under one card", 0);
     let mut numbers = cards::accepted(&mut random, 64, cards::K_MOST, cards::D_MOST);
     (numbers.m, numbers.lo, numbers.hi) = (6, 440, 560);
+    (numbers.dealt, numbers.width) = (1, 1_000);
     let mut lines = Vec::new();
     let mut expected = String::new();
     for _ in 0..count {

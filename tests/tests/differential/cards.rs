@@ -1,4 +1,4 @@
-//! Numbers and weights of a card: accepted ones from every region, and ones that just miss question 2, 3 or 4.
+//! Numbers and weights of a card: accepted ones from every region, and ones that just miss question 2, 3, 4 or 27.
 
 use super::random::Random;
 use super::run::Regions;
@@ -17,6 +17,9 @@ pub struct Numbers {
     pub m: u8,
     pub lo: u16,
     pub hi: u16,
+    /// Whether the fourth field is there, as the byte that is handed: 0 says no, any other one yes.
+    pub dealt: u8,
+    pub width: u32,
     pub weights: Vec<u8>,
 }
 
@@ -29,8 +32,37 @@ impl Numbers {
             m: self.m,
             lo: self.lo,
             hi: self.hi,
+            dealt: self.has_field(),
+            width: self.width,
             weights: &self.weights,
         }
+    }
+
+    pub fn has_field(&self) -> bool {
+        self.dealt != 0
+    }
+
+    /// W as the card has it and as it is read back: 0 without the field.
+    pub fn width_on_card(&self) -> u32 {
+        if self.has_field() {
+            self.width
+        } else {
+            0
+        }
+    }
+
+    /// The bytes of the fourth field, none without it.
+    pub fn fourth(&self) -> Vec<u8> {
+        if self.has_field() {
+            fourth_of(self.width)
+        } else {
+            Vec::new()
+        }
+    }
+
+    /// Whether question 27 says no, whatever the questions before it say.
+    pub fn misses_27(&self) -> bool {
+        self.has_field() && (self.width < 2 || self.width > self.f)
     }
 
     /// K, for L not 0.
@@ -50,7 +82,7 @@ impl Numbers {
         4 + usize::from(self.l)
     }
 
-    /// The contents of the card's three fields.
+    /// The contents of the card's first three fields.
     pub fn fields(&self) -> (Vec<u8>, Vec<u8>, Vec<u8>) {
         let mut first = self.f.to_be_bytes().to_vec();
         first.extend([self.l, self.r]);
@@ -62,7 +94,9 @@ impl Numbers {
 
     pub fn card(&self) -> Vec<u8> {
         let (first, second, third) = self.fields();
-        card_of(&first, &second, &third)
+        let mut card = card_of(&first, &second, &third);
+        card.extend(self.fourth());
+        card
     }
 
     pub fn report(&self) -> String {
@@ -73,16 +107,25 @@ impl Numbers {
             m,
             lo,
             hi,
+            dealt,
+            width,
             weights,
         } = self;
         format!(
-            "F {f} L {l} R {r} m {m} lo {lo} hi {hi} weights {}",
+            "F {f} L {l} R {r} m {m} lo {lo} hi {hi} dealt {dealt} W {width} weights {}",
             super::lent::hex(weights)
         )
     }
 }
 
-/// A card whose fields have these contents.
+/// A fourth field of this width.
+pub fn fourth_of(width: u32) -> Vec<u8> {
+    let mut field = vec![4, 0, 4];
+    field.extend(width.to_be_bytes());
+    field
+}
+
+/// A card whose first three fields have these contents.
 pub fn card_of(first: &[u8], second: &[u8], third: &[u8]) -> Vec<u8> {
     let mut card = Vec::new();
     for (tag, content) in [(1, first), (2, second), (3, third)] {
@@ -206,15 +249,63 @@ pub fn accepted(random: &mut Random, l: usize, k: usize, d: usize) -> Numbers {
     };
     let weights = any_weights(random, d);
     let (m, lo, hi) = any_screen(random);
+    let f = ((k - 1) * l + last) as u32;
+    let (dealt, width) = any_dealing(random, f);
     Numbers {
-        f: ((k - 1) * l + last) as u32,
+        f,
         l: l as u8,
         r: random.one_of(&[2, 4]),
         m,
         lo,
         hi,
+        dealt,
+        width,
         weights: bytes_of(&weights),
     }
+}
+
+/// Whether the fourth field is there, as a byte, and W: one that question 27 takes with the field, any one without it.
+fn any_dealing(random: &mut Random, f: u32) -> (u8, u32) {
+    if f < 2 || random.once_in(2) {
+        return (0, any_ignored_width(random, f));
+    }
+    (any_yes(random), any_legal_width(random, f))
+}
+
+/// A byte that says that the field is there.
+fn any_yes(random: &mut Random) -> u8 {
+    let any = random.between(1, 255) as u8;
+    random.one_of(&[1, 1, 2, 4, 128, 254, 255, any])
+}
+
+/// From 2 to F, the ends and the places where a round more or less begins more often. Needs F at least 2.
+pub fn any_legal_width(random: &mut Random, f: u32) -> u32 {
+    let width = match random.below(10) {
+        0 | 1 => 2,
+        2 => f,
+        3 => f - 1,
+        4 => f / 2,
+        5 => f / 2 + 1,
+        6 => random.between(2, (f as usize).min(9)) as u32,
+        7 => any_divisor(random, f),
+        _ => random.between(2, f as usize) as u32,
+    };
+    width.clamp(2, f)
+}
+
+/// F divided by a small number, where that leaves nothing; else F.
+fn any_divisor(random: &mut Random, f: u32) -> u32 {
+    let by = random.between(2, 9) as u32;
+    match f % by {
+        0 => f / by,
+        _ => f,
+    }
+}
+
+/// Any W, among them those that question 27 would just take or just refuse if the field were there.
+fn any_ignored_width(random: &mut Random, f: u32) -> u32 {
+    let any = random.word();
+    random.one_of(&[0, 0, 1, 2, f, f.saturating_add(1), u32::MAX, any])
 }
 
 /// m, lo and hi that question 3 takes, most of them loose enough for a random strand.
@@ -245,13 +336,42 @@ pub fn any_accepted(random: &mut Random) -> Numbers {
     accepted(random, l, k, d)
 }
 
-/// Changes the numbers so that question 2, 3 or 4 says no, mostly by as little as can be.
+/// Changes the numbers so that question 2, 3, 4 or 27 says no, mostly by as little as can be. Where one of the first three does, 27
+/// sometimes says no as well.
 pub fn miss(random: &mut Random, numbers: &mut Numbers) {
-    match random.below(3) {
+    match random.below(4) {
         0 => miss_2(random, numbers),
         1 => miss_3(random, numbers),
-        _ => miss_4(random, numbers),
+        2 => miss_4(random, numbers),
+        _ => return miss_27(random, numbers),
     }
+    if random.once_in(4) {
+        miss_27(random, numbers);
+    }
+}
+
+/// The field, with a W below 2 or above F. Some of those above have low bytes that would be legal alone.
+fn miss_27(random: &mut Random, numbers: &mut Numbers) {
+    let f = numbers.f;
+    let above = f.saturating_add(1);
+    let legal = if f < 2 { 2 } else { any_legal_width(random, f) };
+    numbers.dealt = any_yes(random);
+    numbers.width = match random.below(10) {
+        0 => 0,
+        1 | 2 => 1,
+        3 | 4 => above,
+        5 => u32::MAX,
+        6 => random.between(above as usize, u32::MAX as usize) as u32,
+        7 => low_bytes_of(legal, 8, above),
+        8 => low_bytes_of(legal, 16, above),
+        _ => low_bytes_of(legal, 24, above),
+    };
+}
+
+/// The low bits of a W under a one above them; else the least W that is too large.
+fn low_bytes_of(width: u32, bits: u32, above: u32) -> u32 {
+    let wider = (width % (1 << bits)) | (1 << bits);
+    wider.max(above)
 }
 
 fn miss_2(random: &mut Random, numbers: &mut Numbers) {
@@ -329,23 +449,38 @@ fn miss_4(random: &mut Random, numbers: &mut Numbers) {
     }
 }
 
-/// The regions of questions 2 to 4 that the cases of every call must come from.
+/// The regions of questions 2 to 4 and 27 that the cases of every call must come from. "field" is the fourth one.
 #[rustfmt::skip]
 pub const REGIONS: &[&str] = &[
-    "answer 0", "answer 2", "answer 3", "answer 4",
+    "answer 0", "answer 2", "answer 3", "answer 4", "answer 27",
     "L 1", "L 64", "R 2", "R 4", "K 1", "K 131,072", "D 1", "D 1,024", "D = K", "F 1", "F 8,388,608",
     "weights with zeros", "sum of weights 1", "sum of weights 4,294,967,295",
     "m 1", "m 20", "lo = hi", "lo 0", "hi 1000",
     "2: F 0", "2: F 8,388,609", "2: K 131,073", "2: L 0", "2: L 65", "2: R 1", "2: R 3", "2: R 5",
     "3: m 0", "3: m 21", "3: lo = hi + 1", "3: hi 1001",
     "4: no weights", "4: D = K + 1", "4: D 1,025", "4: sum 0", "4: sum 4,294,967,296",
+    "accepted with the field", "accepted without the field",
+    "field: W 2", "field: W = F", "field: W = F = 2", "field: W = F - 1", "field: W just above F / 2", "field: W divides F",
+    "field: W over 65,535", "field: W with low byte 0", "field: D 1,024",
+    "27: W 0", "27: W 1", "27: W 1 and F 2", "27: W = F + 1", "27: W 4,294,967,295",
+    "27: F 1", "27: W = F = 1", "27: W 2 and F 1", "27: low byte of W legal", "27: two low bytes of W legal",
+    "2: 27 too", "3: 27 too", "4: 27 too",
 ];
+
+/// Those that calls which are lent a whole file meet too seldom.
+#[rustfmt::skip]
+pub const LARGEST_REGIONS: &[&str] = &["field: W = F = 8,388,608", "27: W = F + 1 and F 8,388,608"];
 
 /// Those that only calls after the card reader can meet, which has question 1 for them.
 #[rustfmt::skip]
-pub const HANDED_REGIONS: &[&str] = &["4: a byte short", "4: a byte over", "weights NULL"];
+pub const HANDED_REGIONS: &[&str] = &[
+    "4: a byte short", "4: a byte over", "weights NULL",
+    "field: byte 1", "field: an even byte", "field: an odd byte over 1", "27: byte 1", "27: an even byte", "27: an odd byte over 1",
+    "no field: W 0", "no field: W 1", "no field: W 2", "no field: W = F", "no field: W = F + 1", "no field: W 4,294,967,295",
+    "no field: W not 0 and F 1",
+];
 
-/// Notes what region of questions 2 to 4 the numbers come from, under the answer that they had.
+/// Notes what region of questions 2 to 4 and 27 the numbers come from, under the answer that they had.
 pub fn note(regions: &mut Regions, numbers: &Numbers, answer: u32) {
     regions.note_answer(answer);
     let Numbers {
@@ -356,8 +491,12 @@ pub fn note(regions: &mut Regions, numbers: &Numbers, answer: u32) {
         lo,
         hi,
         ref weights,
+        ..
     } = *numbers;
     let fine_l = (1..=64).contains(&l);
+    if (2..=4).contains(&answer) && numbers.misses_27() {
+        regions.note(&format!("{answer}: 27 too"));
+    }
     match answer {
         1 => (),
         2 => {
@@ -403,8 +542,75 @@ pub fn note(regions: &mut Regions, numbers: &Numbers, answer: u32) {
             regions.note_if(whole && sum == 0, "4: sum 0");
             regions.note_if(whole && sum == 1 << 32, "4: sum 4,294,967,296");
         }
-        _ => note_accepted(regions, numbers),
+        27 => note_27(regions, numbers),
+        _ => {
+            note_accepted(regions, numbers);
+            note_dealing(regions, numbers, answer);
+        }
     }
+}
+
+/// Notes how W misses question 27.
+fn note_27(regions: &mut Regions, numbers: &Numbers) {
+    let Numbers { f, width, .. } = *numbers;
+    let above = u64::from(width) == u64::from(f) + 1;
+    let legal = |w: u32| (2..=f).contains(&w);
+    regions.note_if(width == 0, "27: W 0");
+    regions.note_if(width == 1, "27: W 1");
+    regions.note_if(width == 1 && f == 2, "27: W 1 and F 2");
+    regions.note_if(above, "27: W = F + 1");
+    regions.note_if(
+        above && f as usize == F_MOST,
+        "27: W = F + 1 and F 8,388,608",
+    );
+    regions.note_if(width == u32::MAX, "27: W 4,294,967,295");
+    regions.note_if(f == 1, "27: F 1");
+    regions.note_if(f == 1 && width == 1, "27: W = F = 1");
+    regions.note_if(f == 1 && width == 2, "27: W 2 and F 1");
+    regions.note_if(legal(width & 0xFF), "27: low byte of W legal");
+    regions.note_if(legal(width & 0xFFFF), "27: two low bytes of W legal");
+    note_byte(regions, "27", numbers.dealt);
+}
+
+/// Notes which byte says that the field is there.
+fn note_byte(regions: &mut Regions, region: &str, dealt: u8) {
+    let byte = match dealt {
+        1 => "byte 1",
+        _ if dealt & 1 == 0 => "an even byte",
+        _ => "an odd byte over 1",
+    };
+    regions.note(&format!("{region}: {byte}"));
+}
+
+/// Notes what stands for the field in a card of which question 27 says yes.
+fn note_dealing(regions: &mut Regions, numbers: &Numbers, answer: u32) {
+    let Numbers { f, width, .. } = *numbers;
+    if !numbers.has_field() {
+        regions.note_if(answer == 0, "accepted without the field");
+        regions.note_if(width == 0, "no field: W 0");
+        regions.note_if(width == 1, "no field: W 1");
+        regions.note_if(width == 2, "no field: W 2");
+        regions.note_if(width == f, "no field: W = F");
+        regions.note_if(width == f + 1, "no field: W = F + 1");
+        regions.note_if(width == u32::MAX, "no field: W 4,294,967,295");
+        regions.note_if(width != 0 && f == 1, "no field: W not 0 and F 1");
+        return;
+    }
+    regions.note_if(answer == 0, "accepted with the field");
+    regions.note_if(width == 2, "field: W 2");
+    regions.note_if(width == f, "field: W = F");
+    regions.note_if(width == f && f == 2, "field: W = F = 2");
+    regions.note_if(width == f - 1, "field: W = F - 1");
+    regions.note_if(width == f / 2 + 1, "field: W just above F / 2");
+    regions.note_if(width < f && f % width == 0, "field: W divides F");
+    regions.note_if(width > 0xFFFF, "field: W over 65,535");
+    regions.note_if(width & 0xFF == 0, "field: W with low byte 0");
+    regions.note_if(numbers.d() == D_MOST, "field: D 1,024");
+    regions.note_if(
+        width == f && f as usize == F_MOST,
+        "field: W = F = 8,388,608",
+    );
+    note_byte(regions, "field", numbers.dealt);
 }
 
 fn note_accepted(regions: &mut Regions, numbers: &Numbers) {
@@ -416,6 +622,7 @@ fn note_accepted(regions: &mut Regions, numbers: &Numbers) {
         lo,
         hi,
         ref weights,
+        ..
     } = *numbers;
     let (k, d) = (numbers.k(), numbers.d());
     regions.note_if(l == 1, "L 1");

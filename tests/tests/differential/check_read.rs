@@ -5,7 +5,7 @@ use super::lent::hex;
 use super::random::Random;
 use super::reads;
 use super::run::Regions;
-use second::read_check_c_form;
+use second::{read_check_c_form, Handed};
 
 pub struct Case {
     pub numbers: Numbers,
@@ -17,7 +17,7 @@ pub struct Case {
 #[rustfmt::skip]
 pub const REGIONS: &[&str] = &[
     "answer 16", "out just long enough", "out longer", "16: a byte short", "16: no bytes", "refused with a short out",
-    "out NULL", "read NULL",
+    "out NULL", "read NULL", "27: 9 too", "27: 9 to 13 and 16 fine",
 ];
 
 impl Case {
@@ -53,6 +53,15 @@ impl Case {
         regions.note_if(answer == 0 && length > needed, "out longer");
         regions.note_if(answer == 16 && length + 1 == needed, "16: a byte short");
         regions.note_if(answer == 16 && length == 0, "16: no bytes");
+        if answer == 27 {
+            let without_field = Handed {
+                dealt: false,
+                ..self.numbers.handed()
+            };
+            let rest = read_check_c_form(&without_field, &self.read, &mut self.out.clone());
+            regions.note_if(rest == 9, "27: 9 too");
+            regions.note_if(rest == 0, "27: 9 to 13 and 16 fine");
+        }
         regions.note_if(
             (9..=13).contains(&answer) && length < needed,
             "refused with a short out",

@@ -232,7 +232,7 @@ pub const REGIONS: &[&str] = &[
 /// Notes what region of questions 9 to 13 the read comes from, under the answer that it had.
 pub fn note(regions: &mut Regions, numbers: &Numbers, read: &[u8], answer: u32) {
     match answer {
-        1..=8 | 14 => (),
+        1..=8 | 14 | 27 => (),
         9 => {
             regions.note_if(read.len() + 1 == numbers.n(), "9: a letter short");
             regions.note_if(read.len() == numbers.n() + 1, "9: a letter over");

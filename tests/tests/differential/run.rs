@@ -65,7 +65,8 @@ where
     outcome.map_err(|what| {
         format!(
             "{call}: case {number} (seed {seed:016x}) differs: {what}\n\
-             to run it alone: FOUNTAIN_CASE={number} cargo test --offline --manifest-path tests/Cargo.toml --test differential_{call}"
+             to run it alone: FOUNTAIN_CASE={number} cargo test --offline --manifest-path tests/Cargo.toml \
+             --test 'differential_*' -- --exact {call}"
         )
     })
 }

@@ -21,7 +21,7 @@ pub const REGIONS: &[&str] = &[
 ];
 
 pub fn note(regions: &mut Regions, record: usize, length: usize, count: usize, answer: u32) {
-    let fits = answer == 0 || answer > 14;
+    let fits = matches!(answer, 0 | 15..=18);
     regions.note_if(
         fits && count > 0 && count * record == length,
         "the count just fits",

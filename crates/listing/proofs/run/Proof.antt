@@ -1,6 +1,11 @@
--- `run` meets its contract: an accepted card has its numbers in range, and weights from byte 20 on. Assumes nothing.
+-- `run` meets its contract: an accepted card has its numbers in range, and weights from byte 20 to where the third field ends. Assumes
+-- nothing.
+use Prim.Native.Nat.{_≤_}
 use native.Mathlib.Omega.{arith}
+use lib.ListN.{length}
 use borrow.Author.Needs.{needs}
+use Rattle.droplet.specs.PoolCard.{weightsStart}
+use Rattle.droplet.proofs.CardBytes.{head-before-end, head-there}
 use Rattle.droplet.proofs.LegalCard.{Sizes, legal}
 use Rattle.droplet.proofs.CardAnswers.{Accepted, read}
 use Rattle.listing.proofs.run.Statement.{statement}
@@ -22,11 +27,18 @@ mul-if1 c =
     let right = sizes (c .before .before) in
     record { fits = rw (c .before .segment-count .ensures) (omega (arith, right .file-fills, right .f-most, right .l-most)) }
 
-sub-list-pool : tie.Need-sub-list-pool
-sub-list-pool c = omega (arith, accepted (c .before .before .before) .long)
+weights-end-requires : tie.Need-weights-end-requires
+weights-end-requires c κs = head-there _ (accepted (c .before .before .before) .long)
 
-part-list-pool-start : tie.Need-part-list-pool-start
-part-list-pool-start c = omega (arith, accepted (c .before .before .before) .long)
+-- where the weights stand
+within : (c : tie.After-weights-end) → (let known = c .before .before .before .before in
+    let bytes = known .before .before .before .before .before .before .before .before .before .before .before .args .bytes .now in
+    (weightsStart ≤ c .weights-end .result) × (c .weights-end .result ≤ length bytes))
+within c =
+    let known = c .before .before .before .before in
+    let bytes = known .before .before .before .before .before .before .before .before .before .before .before .args .bytes .now in
+    let end = c .weights-end .ensures .0 in
+    (omega (arith, end, head-before-end bytes), omega (arith, end, accepted known .long))
 
 pub run-spec : {M : Type 1} → statement M
 run-spec =
@@ -40,9 +52,10 @@ run-spec =
     segment-count-requires
     (λ c. search needs)
     mul-if1
-    sub-list-pool
-    part-list-pool-start
-    (λ c. search needs)
+    weights-end-requires
+    (λ c. within c .0)
+    (λ c. within c .0)
+    (λ c. within c .1)
     (λ c κs. search needs)
     (λ c. search needs)
     (λ c κs. search needs)

@@ -15,8 +15,9 @@ returns c =
 returns-2 : tie.Need-returns-2
 unfolding cardReturned
 returns-2 c =
-    let n = c .before .before .before .before .before .before .before .before in
-    ap (cardReturned _) (sym (ap cardAnswer (n .c .given .1)) ∙ n .before .before .read-card .ensures)
+    let flag = c .before .before in
+    let n = flag .before .before .before .before .before .before .before .before in
+    rw (flag .flag-number .ensures) (ap (cardReturned _) (sym (ap cardAnswer (n .c .given .1)) ∙ n .before .before .read-card .ensures))
 
 pub fountain-read-card-spec : {M : Type 1} → statement M
 fountain-read-card-spec =
@@ -32,6 +33,8 @@ fountain-read-card-spec =
     (λ c. search needs)
     (λ c. search needs)
     (λ c. search needs)
+    (λ c. search needs)
+    (λ c κs. search needs)
     (λ c. search needs)
     returns
     returns-2)

@@ -7,20 +7,20 @@ use native.Mathlib.Omega.{arith}
 use borrow.Author.Needs.{needs}
 use Rattle.droplet.specs.declared.card.Card.{Card}
 use Rattle.droplet.specs.PoolCard.{weightCount, weightSum, segmentCount}
-use Rattle.droplet.specs.Questions.{sizesRight, limitsRight, weightsRight, cardRefusal, planOf}
+use Rattle.droplet.specs.Questions.{sizesRight, limitsRight, weightsRight, widthRight, planOf}
 use Rattle.droplet.specs.Questions.Planned.{planned, refused}
-use Rattle.droplet.proofs.LegalCard.{sizes-true, weights-true}
+use Rattle.droplet.proofs.LegalCard.{sizes-true, weights-true, says-2, says-3, says-4, says-27, says-nothing}
 use Rattle.droplet.proofs.card.check_plan.Statement.{statement}
 use Rattle.droplet.proofs.card.check_plan.Tie as tie
 
 module _ (card : Card) (ws : List ℕ) where
   plan-2 : sizesRight card ≡ false → refused 2 ≡ planOf card ws
-  unfolding planOf cardRefusal
-  plan-2 two = rw two
+  unfolding planOf
+  plan-2 two = rw (says-2 card ws two)
 
   plan-3 : sizesRight card ≡ true → limitsRight card ≡ false → refused 3 ≡ planOf card ws
-  unfolding planOf cardRefusal
-  plan-3 two three = rw (two, three)
+  unfolding planOf
+  plan-3 two three = rw (says-3 card ws two three)
 
   -- `right_sum` gives the sum of the weights, or 0
   module _ (sum : ℕ) (summed : sum ≡ cond (weightsRight card ws) (weightSum ws) 0) where
@@ -40,12 +40,16 @@ module _ (card : Card) (ws : List ℕ) where
 
     module _ (two : sizesRight card ≡ true) (three : limitsRight card ≡ true) where
       plan-4 : sum ≡ 0 → refused 4 ≡ planOf card ws
-      unfolding planOf cardRefusal
-      plan-4 none = rw (two, three, four-no none)
+      unfolding planOf
+      plan-4 none = rw (says-4 card ws two three (four-no none))
 
-      plan-ready : (k : ℕ) → k ≡ segmentCount card → (sum ≡ 0 → ⊥) → planned k (weightCount ws) sum ≡ planOf card ws
-      unfolding planOf cardRefusal
-      plan-ready k counted some = rw (counted, summed, two, three, four-yes some)
+      plan-27 : (sum ≡ 0 → ⊥) → widthRight card ≡ false → refused 27 ≡ planOf card ws
+      unfolding planOf
+      plan-27 some last = rw (says-27 card ws two three (four-yes some) last)
+
+      plan-ready : (k : ℕ) → k ≡ segmentCount card → (sum ≡ 0 → ⊥) → widthRight card ≡ true → planned k (weightCount ws) sum ≡ planOf card ws
+      unfolding planOf
+      plan-ready k counted some last = rw (says-nothing card ws two three (four-yes some) last, counted, summed, four-yes some)
 
 two : (c : tie.Then1) → sizesRight (c .before .before .before .args .card) ≡ true
 two c = sym (c .before .sizes-right .ensures) ∙ c .if1 .taken
@@ -61,24 +65,40 @@ returns c = let then = c .before .before in
     plan-4 _ _ _ (c .before .right-sum .ensures) (two (then .before .before)) (three then) (c .if3 .taken)
 
 segment-count-requires : tie.Need-segment-count-requires
-segment-count-requires c κs = let sizes = sizes-true _ (two (c .before .before .before .before)) in (sizes .l-least, sizes .f-most)
+segment-count-requires c κs =
+    let then = c .before .before .before .before in
+    let sizes = sizes-true _ (two (then .before .before)) in
+    (sizes .l-least, sizes .f-most)
 
-cast-t10 : tie.Need-cast-t10
-cast-t10 c =
-    let then = c .before .before .before in
-    let start = then .before .before .before .before .before in
-    let weights = weights-true (start .args .card) (start .args .weights .now) (four-yes _ _ _ (c .before .before .right-sum .ensures) (c .before .if3 .left)) in
+cast-t11 : tie.Need-cast-t11
+cast-t11 c =
+    let summed = c .before .before .before .before in
+    let start = summed .before .before .before .before .before .before in
+    let right = four-yes (start .args .card) (start .args .weights .now) _ (summed .right-sum .ensures) (c .before .before .before .if3 .left) in
+    let weights = weights-true (start .args .card) (start .args .weights .now) right in
     search needs
 
 returns-2 : tie.Need-returns-2
-returns-2 c = let then = c .before .before .before in
-    plan-ready _ _ _ (c .before .before .right-sum .ensures) (two (then .before .before)) (three then) _ (c .segment-count .ensures) (c .before .if3 .left)
+returns-2 c =
+    let width = c .before .before in
+    let summed = width .before .before in
+    let then = summed .before in
+    plan-ready _ _ _ (summed .right-sum .ensures) (two (then .before .before)) (three then) _ (c .segment-count .ensures) (width .before .if3 .left)
+    (sym (width .width-right .ensures) ∙ c .before .if4 .taken)
 
 returns-3 : tie.Need-returns-3
-returns-3 c = plan-3 _ _ (two (c .before .before)) (sym (c .before .limits-right .ensures) ∙ c .if2 .left)
+returns-3 c =
+    let width = c .before in
+    let summed = width .before .before in
+    let then = summed .before in
+    plan-27 _ _ _ (summed .right-sum .ensures) (two (then .before .before)) (three then) (width .before .if3 .left)
+    (sym (width .width-right .ensures) ∙ c .if4 .left)
 
 returns-4 : tie.Need-returns-4
-returns-4 c = plan-2 _ _ (sym (c .before .sizes-right .ensures) ∙ c .if1 .left)
+returns-4 c = plan-3 _ _ (two (c .before .before)) (sym (c .before .limits-right .ensures) ∙ c .if2 .left)
+
+returns-5 : tie.Need-returns-5
+returns-5 c = plan-2 _ _ (sym (c .before .sizes-right .ensures) ∙ c .if1 .left)
 
 pub check-plan-spec : {M : Type 1} → statement M
 check-plan-spec =
@@ -88,8 +108,10 @@ check-plan-spec =
     (λ c κs. search needs)
     right-sum-requires
     returns
+    (λ c κs. search needs)
     segment-count-requires
-    cast-t10
+    cast-t11
     returns-2
     returns-3
-    returns-4)
+    returns-4
+    returns-5)

@@ -1,0 +1,24 @@
+-- `fountain_undeal` meets its contract. Assumes nothing.
+use borrow.Author.Needs.{needs}
+use Rattle.capi.proofs.ReorderForms.{refusal-formed, done-formed}
+use Rattle.capi.proofs.c_forms.fountain_undeal.Statement.{statement}
+use Rattle.capi.proofs.c_forms.fountain_undeal.Tie as tie
+
+returns : tie.Need-returns
+returns c = refusal-formed (c .before .before .before .before .before .deinterleave-file .ensures) _ (c .before .n .given .1)
+
+returns-2 : tie.Need-returns-2
+returns-2 c = done-formed (c .before .before .before .before .deinterleave-file .ensures) (c .enum-told .given .1)
+
+pub fountain-undeal-spec : {M : Type 1} → statement M
+fountain-undeal-spec =
+    tie.close
+    (tie.spec
+    (λ c κs. search needs)
+    (λ c. search needs)
+    (λ c. search needs)
+    (λ c. search needs)
+    (λ c. search needs)
+    returns
+    (λ c. search needs)
+    returns-2)

@@ -1,0 +1,12 @@
+pub mod Remainders
+pub mod Columns
+pub mod Interleaving
+pub mod Reordering
+pub mod Moved
+pub mod Strides
+pub mod Pieces
+pub mod Lines
+pub mod OneLine
+pub mod Bands
+pub mod ReorderAnswers
+pub mod InterleaveRoundTrip

@@ -1,0 +1,4 @@
+pub mod Interleaving
+pub mod Moves
+pub mod InterleaveCalls
+pub mod InterleaveRoundTrip
