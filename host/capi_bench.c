@@ -1,8 +1,8 @@
 /* Runs document 01's bench example through all functions and compares every number and every byte with the values that
  * stand there or follow from its rules: reads card P and cuts it again, writes strands of file Q, checks and stores the reads of
  * seeds 2, 1, 3, and restores. On the way it has calls refused, and runs document 02's example of runs over the joints (Item 1) and the
- * header's examples of dropped strands (Item 12) and of a file of seven bytes, dealt by W = 3 (Item 14). Each lent buffer and answer
- * ends in bytes that must survive, and all of them must survive a refusal. Returns 1 if anything differs.
+ * header's examples of dropped strands (Item 12) and of a file of seven bytes, dealt by W = 3 (Item 14). Lent buffers and answers
+ * end in bytes that must survive, but in the job with a dealt file, and all of them must survive a refusal. Returns 1 if anything differs.
  *
  *   capi_bench bench.card */
 #include <stdio.h>

@@ -127,6 +127,8 @@ fn damaged_reads(
     all
 }
 
+type Write = fn(Card, &[u8], &[u8], u32, u32, u32, &mut [u8], &mut [u32], &mut [u64; 6]) -> u32;
+
 type Store = fn(Card, &[u8], &mut [u8], usize, &[u8], &mut [u64; 2]) -> u32;
 
 fn shelve_all(
@@ -406,6 +408,58 @@ fn deal(width: u32) -> Vec<Line> {
     vec![line("deal", dealt), line("undeal", back)]
 }
 
+/// What a width does to a file that is half zeros: made, tried and dropped for a run, of 2,250 strands wanted and 2,000,000 seeds at most.
+/// No times.
+fn zeros(is_zero: fn(usize) -> bool, width: u32) -> [u64; 3] {
+    let card = Card {
+        dealt: u8::from(width != 0),
+        width,
+        ..job("", 65_536, 32, 2, 0, 0, 0, 0).card
+    };
+    let f = card.f as usize;
+    let (k, line) = (f / 32, 4 * (4 + 32 + 2) + 1);
+    let weights = soliton(k, 1024);
+    let mut random = Random(88_172_645_463_325_252);
+    let file: Vec<u8> = (0..f)
+        .map(|i| if is_zero(i) { 0 } else { random.next() as u8 })
+        .collect();
+    let (mut dealt, wanted) = (vec![0; f], 2_250);
+    let (mut out, mut list) = (vec![0; wanted * line], vec![0; 1024]);
+    let (mut a, mut b) = ([9; 6], [9; 6]);
+    assert_eq!(archive::deal(card, &weights, &file, &mut dealt), 0);
+    for (write, answer) in [
+        (archive::write as Write, &mut a),
+        (tuned::write as Write, &mut b),
+    ] {
+        let wanted = wanted as u32;
+        let n = write(
+            card, &weights, &dealt, 1, wanted, 2_000_000, &mut out, &mut list, answer,
+        );
+        assert_eq!(n, 0);
+    }
+    assert_eq!(a, b);
+    [a[1], a[2], a[4]]
+}
+
+fn print_zeros() {
+    println!("\n65,536 bytes, half of them zeros, L 32, R 2: made, tried and dropped for a run");
+    let records: fn(usize) -> bool = |i| i % 32 < 16;
+    let first_half: fn(usize) -> bool = |i| i < 32_768;
+    for (name, is_zero, widths) in [
+        (
+            "16 zeros in each record of 32 bytes",
+            records,
+            [0, 32, 2_048],
+        ),
+        ("zeros in the first half", first_half, [0, 32, 2_048]),
+    ] {
+        for width in widths {
+            let [made, tried, run] = zeros(is_zero, width);
+            println!("{name}, W {width}: {made} {tried} {run}");
+        }
+    }
+}
+
 fn machine() -> String {
     let info = std::fs::read_to_string("/proc/cpuinfo").unwrap_or_default();
     let name = info
@@ -493,6 +547,7 @@ fn main() {
         let widths = [2, 64, 4_096, 8_388_608 / 2];
         let lines: Vec<Line> = widths.into_iter().flat_map(deal).collect();
         print_table("dealing: 8,388,608 bytes", &lines);
+        print_zeros();
     }
     if wanted("growth") {
         println!("\ngrowth with K (L 32; 9/8 K strands, all on the shelf but 1,000; 4,000 reads), proved, microseconds a strand, read, read and record");

@@ -1,5 +1,5 @@
-//! Documents 01 and 02 (Items 1, 12 and 14) in Rust, tuned for speed, behind the same interface as the proved archives: the same buffers, the
-//! same checks in each call, no memory of its own between calls and no allocation. It is tuned where plain code would be unfair:
+//! Documents 01 and 02 (Items 1, 12 and 14) in Rust, tuned for speed, behind the same interface as the proved archives: the same buffers,
+//! the same checks in each call, no memory of its own between calls and no allocation. It is tuned where plain code would be unfair:
 //! letters, C and G, doubling and parity by tables that are computed when it is compiled, and a bitmap for large sets.
 
 #[derive(Clone, Copy)]

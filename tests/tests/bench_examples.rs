@@ -334,8 +334,8 @@ fn card_p_with_a_width() {
     assert_eq!(read_card(&card_p()).unwrap().width, 0);
 }
 
-/// File Q under card P with W = 3, 4 and 5: the places 0 3, 1, 2 of four, all of
-/// them in order, and "a W .. above F is refused as 27".
+/// File Q under card P with W = 2, 3 and 4: the places 0 2, 1 3 of four, then 0 3,
+/// 1, 2, then all of them in order; and "a W below 2 or above F is refused as 27".
 #[test]
 fn file_q_is_dealt() {
     let card = card_p();

@@ -50,7 +50,7 @@ fn put_wrongly(random: &mut Random, card: &mut Vec<u8>, fourth: &[u8], third: us
     match random.below(8) {
         0 => card.extend(&fourth[..random.between(1, 6)]),
         1 => {
-            let any = random.byte();
+            let any = random.byte() | 8;
             card.push(random.one_of(&[0, 3, 3, 5, 5, 132, any]));
             card.extend(&fourth[1..]);
         }

@@ -1,4 +1,5 @@
--- The C forms of dealing and undealing by the promise of the calls: the number of each answer. Assumes nothing.
+-- The C forms of dealing and undealing by the promise of the calls, under the card of what was handed: the number of each answer. Assumes
+-- nothing.
 use mathlib.Core.Path.{_≡_, ap, _∙_}
 use mathlib.Core.Bool.{Bool}
 use mathlib.Core.List.{List}
@@ -9,13 +10,13 @@ use Rattle.interleave.specs.declared.file.ReorderAnswer.the-variants.{Done, Ref
 use Rattle.interleave.specs.InterleaveCalls.{reorderAnswer, ReorderPromise}
 use Rattle.capi.specs.CForms.{reorderReturned, ReorderForm}
 
-module _ {back : Bool} {c : Card} {weights source target : List ℕ} {r : ReorderAnswer} {target′ : List ℕ}
-    (p : ReorderPromise back c weights source target r target′) where
-  formed : (n : ℕ) → n ≡ reorderReturned (reorderAnswer r) → ReorderForm back c weights source target n target′
-  formed n e = record { returns = e ∙ ap reorderReturned (p .says); leaves = p .leaves }
+module _ {back : Bool} {c c′ : Card} {weights source target : List ℕ} {r : ReorderAnswer} {target′ : List ℕ}
+    (same : c ≡ c′) (p : ReorderPromise back c weights source target r target′) where
+  formed : (n : ℕ) → n ≡ reorderReturned (reorderAnswer r) → ReorderForm back c′ weights source target n target′
+  formed n e = rw (← same) (record { returns = e ∙ ap reorderReturned (p .says); leaves = p .leaves })
 
-  pub refusal-formed : (n : ℕ) → r ≡ Refused n → ReorderForm back c weights source target n target′
+  pub refusal-formed : (n : ℕ) → r ≡ Refused n → ReorderForm back c′ weights source target n target′
   refusal-formed n e = formed n (rw e)
 
-  pub done-formed : r ≡ Done → ReorderForm back c weights source target 0 target′
+  pub done-formed : r ≡ Done → ReorderForm back c′ weights source target 0 target′
   done-formed e = formed 0 (rw e)

@@ -9,12 +9,12 @@ use decoder::restorer::RestoreAnswer;
 use decoder::store;
 use decoder::store::StoreAnswer;
 use droplet::card;
-use droplet::card::Card;
 use droplet::card::CardAnswer;
 use droplet::card_cutter;
 use droplet::card_cutter::CutAnswer;
 use interleave::file;
 use interleave::file::ReorderAnswer;
+use strand::c_form::handed_card;
 use strand::writer;
 use strand::writer::Stop;
 use strand::writer::WriteAnswer;
@@ -71,17 +71,7 @@ pub extern "C" fn fountain_cut_card(
     ensures { λ n. ⌜ CutForm (handedCard f l r m lo hi dealt width) (now (weights .entry)) (now (out .entry)) (now (answer .entry))
         n (now (out .exit)) (now (answer .exit)) ⌝ }
 {
-    let interleaved = dealt != 0;
-    let card = Card {
-        f,
-        l,
-        r,
-        m,
-        lo,
-        hi,
-        interleaved,
-        width,
-    };
+    let card = handed_card(f, l, r, m, lo, hi, dealt, width);
     match card_cutter::cut_card(card, weights, out) {
         CutAnswer::Refused(n) => n as u32,
         CutAnswer::Cut(size) => {
@@ -124,17 +114,7 @@ pub extern "C" fn fountain_write(
     ensures { λ n. ⌜ WriteForm (handedCard f l r m lo hi dealt width) (now (weights .entry)) (now (file .entry)) start wanted budget
         (now (out .entry)) (now (list .entry)) (now (answer .entry)) n (now (out .exit)) (now (list .exit)) (now (answer .exit)) ⌝ }
 {
-    let interleaved = dealt != 0;
-    let card = Card {
-        f,
-        l,
-        r,
-        m,
-        lo,
-        hi,
-        interleaved,
-        width,
-    };
+    let card = handed_card(f, l, r, m, lo, hi, dealt, width);
     match writer::write_strands(card, weights, file, start, wanted, budget, out, list) {
         WriteAnswer::Refused(n) => n as u32,
         WriteAnswer::Written(run) => {
@@ -172,17 +152,7 @@ pub extern "C" fn fountain_store(
     ensures { λ n. ⌜ StoreForm (handedCard f l r m lo hi dealt width) (now (weights .entry)) (now (store .entry)) count (now (read .entry))
         (now (answer .entry)) n (now (store .exit)) (now (answer .exit)) ⌝ }
 {
-    let interleaved = dealt != 0;
-    let card = Card {
-        f,
-        l,
-        r,
-        m,
-        lo,
-        hi,
-        interleaved,
-        width,
-    };
+    let card = handed_card(f, l, r, m, lo, hi, dealt, width);
     match store::store_read(card, weights, store, count, read) {
         StoreAnswer::Refused(n) => n as u32,
         StoreAnswer::Accepted(after) => {
@@ -219,17 +189,7 @@ pub extern "C" fn fountain_restore(
         (now (file .entry)) (now (marks .entry)) (now (list .entry)) (now (answer .entry)) n
         (now (file .exit)) (now (marks .exit)) (now (list .exit)) (now (answer .exit)) ⌝ }
 {
-    let interleaved = dealt != 0;
-    let card = Card {
-        f,
-        l,
-        r,
-        m,
-        lo,
-        hi,
-        interleaved,
-        width,
-    };
+    let card = handed_card(f, l, r, m, lo, hi, dealt, width);
     match restorer::restore(card, weights, store, count, file, marks, list) {
         RestoreAnswer::Refused(n) => n as u32,
         RestoreAnswer::Restored(sheet) => {
@@ -258,19 +218,10 @@ pub extern "C" fn fountain_deal(
     source: &[u8],
     target: &mut [u8],
 ) -> u32
-    ensures { λ n. ⌜ ReorderForm false (handedCard f l r m lo hi dealt width) (now (weights .entry)) (now (source .entry)) (now (target .entry)) n (now (target .exit)) ⌝ }
+    ensures { λ n. ⌜ ReorderForm false (handedCard f l r m lo hi dealt width) (now (weights .entry)) (now (source .entry))
+        (now (target .entry)) n (now (target .exit)) ⌝ }
 {
-    let interleaved = dealt != 0;
-    let card = Card {
-        f,
-        l,
-        r,
-        m,
-        lo,
-        hi,
-        interleaved,
-        width,
-    };
+    let card = handed_card(f, l, r, m, lo, hi, dealt, width);
     match file::interleave_file(card, weights, source, target) {
         ReorderAnswer::Refused(n) => n as u32,
         ReorderAnswer::Done => 0,
@@ -292,19 +243,10 @@ pub extern "C" fn fountain_undeal(
     source: &[u8],
     target: &mut [u8],
 ) -> u32
-    ensures { λ n. ⌜ ReorderForm true (handedCard f l r m lo hi dealt width) (now (weights .entry)) (now (source .entry)) (now (target .entry)) n (now (target .exit)) ⌝ }
+    ensures { λ n. ⌜ ReorderForm true (handedCard f l r m lo hi dealt width) (now (weights .entry)) (now (source .entry))
+        (now (target .entry)) n (now (target .exit)) ⌝ }
 {
-    let interleaved = dealt != 0;
-    let card = Card {
-        f,
-        l,
-        r,
-        m,
-        lo,
-        hi,
-        interleaved,
-        width,
-    };
+    let card = handed_card(f, l, r, m, lo, hi, dealt, width);
     match file::deinterleave_file(card, weights, source, target) {
         ReorderAnswer::Refused(n) => n as u32,
         ReorderAnswer::Done => 0,

@@ -6,7 +6,7 @@ use Rattle.decoder.specs.Vault.{storeAfter, FromFileToVault}
 use Rattle.decoder.proofs.PrintedReads.{printed-legal}
 use Rattle.decoder.proofs.FileReads.{jobs, further-reads, store-ours, droplets-among}
 use Rattle.decoder.proofs.NeverRefused15.{never-15}
-use Rattle.decoder.proofs.CustomersFile.{dealt, undealt}
+use Rattle.decoder.proofs.CustomersFile.{interleaves, interleaved, original-back}
 use Rattle.decoder.proofs.RightSheets.{right-sheet, more-droplets, same-droplets}
 
 pub from-file-to-vault : FromFileToVault
@@ -14,13 +14,14 @@ from-file-to-vault card c D e =
     let weights = cardWeights card in
     let fine = reading-accepted card c D e .unrefused in
     record {
-      dealt = dealt c weights fine;
+      interleaves = interleaves c weights fine;
+      interleaved = interleaved c weights fine;
       jobs = jobs c weights fine;
       legal = λ file read bytes. printed-legal c weights fine file bytes read;
       store = store-ours c weights fine;
       never-15 = never-15 c weights fine;
       back = λ file lent calls job. right-sheet c weights fine file (storeAfter lent calls) (job .size) (store-ours c weights fine file lent calls job);
-      undealt = λ customers file lent calls d job r file′ marks′ sheet all. undealt c weights fine customers file d file′
+      original-back = λ original file lent calls from job r file′ marks′ sheet all. original-back c weights fine original file from file′
           (right-sheet c weights fine file (storeAfter lent calls) (job .size) (store-ours c weights fine file lent calls job) r file′ marks′ sheet .whole all);
       more-reads = λ file lent lent′ calls calls′ job job′ fits among. more-droplets c weights fine (storeAfter lent calls) (storeAfter lent′ calls′)
           (droplets-among c weights fine file lent lent′ calls calls′ job job′ fits among);

@@ -6,8 +6,7 @@ use mathlib.Core.List.{List, [], _∷_, _++_}
 use Prim.Native.Nat.{ℕ, zero, suc, _+_, _*_}
 use lib.ListN.{replicate}
 use Rattle.field.specs.declared.generator.Draw.{Draw}
-use Rattle.field.specs.Bytes.{All, fromBigEndian, toBigEndian, xorLists, padded, sameBytes}
-use Rattle.field.specs.Loops.{tableOf}
+use Rattle.field.specs.Bytes.{All, fromBigEndian, toBigEndian, xorLists, padded, sameBytes, tableOf}
 use Rattle.field.specs.Shift.{shiftUp}
 use Rattle.field.specs.Generator.{ofSeed, afterDraw, numberDrawn, xorshift, seedAfter}
 use Rattle.field.specs.CheckBytes.{double, timesPower, horner, syndromes, byRoot, multiple, remainderAfter, parity}

@@ -120,7 +120,7 @@ laterRefusal K L D buffer count fileLength marksLength listLength =
     cond (countFits L buffer count)
     (cond (hasSeed 0 (records L count buffer)) 17 (roomRefusal K L D fileLength marksLength listLength)) 14
 
--- 2 to 4, and then these
+-- 2 to 4 and 27, and then these
 unfoldable pub restoreRefusal : Card → List ℕ → List ℕ → ℕ → ℕ → ℕ → ℕ → ℕ
 restoreRefusal c weights buffer count fileLength marksLength listLength =
     cond (eqb (cardRefusal c weights) 0)

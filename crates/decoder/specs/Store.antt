@@ -96,7 +96,7 @@ storeReading L buffer count (droplet s p) =
 abbrev pub countFits : ℕ → List ℕ → ℕ → Bool
 countFits L buffer count = leb (count * recordBytes L) (length buffer)
 
--- the store call: 2 to 4, 14, 9 to 13, 15, 16
+-- the store call: 2 to 4, 27, 14, 9 to 13, 15, 16
 unfoldable pub storeRead : Card → List ℕ → List ℕ → ℕ → List ℕ → Kept
 storeRead c weights buffer count read =
     cond (eqb (cardRefusal c weights) 0)

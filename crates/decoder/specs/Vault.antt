@@ -91,15 +91,15 @@ module _ (c : Card) (weights : List ℕ) where
     pub chained : Chained c weights lent 0 calls
     pub printed : LegalPrinted file (readsOf calls)
 
-  -- the customer's file of F bytes, dealt by a call: the first F bytes of what it leaves are the file that the writer is handed
-  pub record Dealt (customers file : List ℕ) : Type 0 where
-    pub size : length customers ≡ c .f
-    pub bytes : AllBytes customers
+  -- the customer's own file of F bytes, dealt by a call: the first F bytes of what it leaves are the file that the writer is handed
+  pub record InterleavedFrom (original file : List ℕ) : Type 0 where
+    pub size : length original ≡ c .f
+    pub bytes : AllBytes original
     pub target : List ℕ
     pub space : c .f ≤ length target
     pub answer : ReorderAnswer
     pub target′ : List ℕ
-    pub promise : InterleavePromise c weights customers target answer target′
+    pub promise : InterleavePromise c weights original target answer target′
     pub handed : file ≡ take (c .f) target′
 
   -- a restore over a store, not refused: it answers a sheet, and leaves a file and marks
@@ -123,11 +123,11 @@ module _ (c : Card) (weights : List ℕ) where
     -- with all present, the file is back
     pub whole : r .present ≡ segmentCount c → take (c .f) file′ ≡ file
 
-  -- a call that undeals what a restore left, with all present and space for F bytes: it is done, and the customer's bytes are back
-  abbrev pub Undealt : List ℕ → List ℕ → Type 0
-  Undealt customers file′ =
+  -- a call that undeals what a restore left, into a buffer with space for F bytes: it is done, and the customer's bytes are back
+  abbrev pub OriginalBack : List ℕ → List ℕ → Type 0
+  OriginalBack original file′ =
       (buffer : List ℕ) (answer : ReorderAnswer) (buffer′ : List ℕ) → DeinterleavePromise c weights file′ buffer answer buffer′
-      → c .f ≤ length buffer → (reorderAnswer answer ≡ done) × (take (c .f) buffer′ ≡ customers)
+      → c .f ≤ length buffer → (reorderAnswer answer ≡ done) × (take (c .f) buffer′ ≡ original)
 
   -- what any restore of one store leaves present, any restore of another leaves present too
   abbrev pub NoBetter : LentStore → LentStore → Type 0
@@ -142,8 +142,11 @@ module _ (c : Card) (weights : List ℕ) where
       → take (segmentCount c) marks ≡ take (segmentCount c) marks′
 
   pub record Vault : Type 0 where
-    -- dealing the customer's file is done, and gives a file of F bytes
-    pub dealt : (customers file : List ℕ) (d : Dealt customers file) → (reorderAnswer (d .answer) ≡ done) × (length file ≡ c .f) × AllBytes file
+    -- every file of F bytes can be dealt
+    pub interleaves : (original : List ℕ) → length original ≡ c .f → AllBytes original → (file : List ℕ) × InterleavedFrom original file
+    -- dealing it is done, and gives a file of F bytes
+    pub interleaved : (original file : List ℕ) (from : InterleavedFrom original file)
+        → (reorderAnswer (from .answer) ≡ done) × (length file ≡ c .f) × AllBytes file
     -- such jobs exist, for every list of reads of which the legal ones are strands of the file
     pub jobs : (file lent : List ℕ) (reads : List (List ℕ)) → length file ≡ c .f → AllBytes file → LegalPrinted file reads
         → (calls : List Call) × Job file lent calls × (readsOf calls ≡ reads)
@@ -158,8 +161,9 @@ module _ (c : Card) (weights : List ℕ) where
     pub back : (file lent : List ℕ) (calls : List Call) → Job file lent calls
         → (r : Sheet) (file′ marks′ : List ℕ) → SheetFrom (storeAfter lent calls) r file′ marks′ → RightSheet file r file′ marks′
     -- and with all present, undealing what was restored gives the customer's file
-    pub undealt : (customers file lent : List ℕ) (calls : List Call) → Dealt customers file → Job file lent calls
-        → (r : Sheet) (file′ marks′ : List ℕ) → SheetFrom (storeAfter lent calls) r file′ marks′ → r .present ≡ segmentCount c → Undealt customers file′
+    pub original-back : (original file lent : List ℕ) (calls : List Call) → InterleavedFrom original file → Job file lent calls
+        → (r : Sheet) (file′ marks′ : List ℕ) → SheetFrom (storeAfter lent calls) r file′ marks′ → r .present ≡ segmentCount c
+        → OriginalBack original file′
     -- more reads never hurt, where there is room for them
     pub more-reads : (file lent lent′ : List ℕ) (calls calls′ : List Call) → Job file lent calls → Job file lent′ calls′
         → RoomForAll lent′ calls′ → AllAmong (legalOf calls) (legalOf calls′) → NoBetter (storeAfter lent calls) (storeAfter lent′ calls′)

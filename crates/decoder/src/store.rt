@@ -120,7 +120,7 @@ fn offer(card: Card, store: &mut [u8], count: usize, read: &[u8]) -> StoreAnswer
     store_droplet(store, count, seed, &payload[..l])
 }
 
-// Offers a read to the store: the questions 2 to 4, 14, and then those of the read and its record. The next call is handed the
+// Offers a read to the store: the questions 2 to 4, 27, 14, and then those of the read and its record. The next call is handed the
 // count in the answer, or after a refusal the same as this one.
 pub fn store_read(
     card: Card,

@@ -1,4 +1,5 @@
--- Document 02, Item 2, "A card cutter", with the field of Item 14: the questions of the call, what it answers and what it leaves in the lent buffer. Assumes nothing.
+-- Document 02, Item 2, "A card cutter", with the field of Item 14: the questions of the call, what it answers and what it leaves in the
+-- lent buffer. Assumes nothing.
 use mathlib.Core.Path.{_≡_}
 use mathlib.Core.Bool.{cond}
 use mathlib.Core.List.{List, _++_}

@@ -3,7 +3,7 @@ use mathlib.Core.Path.{_≡_, refl}
 use Prim.Native.Nat.{ℕ, zero, suc, _<_}
 use native.Mathlib.Omega.{arith}
 use lib.ListN.{getD}
-use Rattle.field.specs.Loops.{tableOf}
+use Rattle.field.specs.Bytes.{tableOf}
 
 pub entry : (n : ℕ) (f : ℕ → ℕ) (k : ℕ) → k < n → getD (tableOf n f) k 0 ≡ f k
 unfolding tableOf

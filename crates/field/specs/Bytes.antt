@@ -1,7 +1,7 @@
 -- Bytes and lists of bytes, which every section of document 01 rests on. Assumes nothing.
 use mathlib.Core.Bool.{Bool, true, false, _&&_}
 use mathlib.Core.List.{List, [], _∷_, _++_, foldl}
-use Prim.Native.Nat.{ℕ, _+_, _-_, _*_, _/_, _%_, _^_, _<_}
+use Prim.Native.Nat.{ℕ, zero, suc, _+_, _-_, _*_, _/_, _%_, _^_, _<_}
 use lib.Bits.{bitXor}
 use lib.Dec.{eqb}
 use lib.ListN.{length, replicate}
@@ -41,3 +41,8 @@ sameBytes [] [] = true
 sameBytes [] (y ∷ ys) = false
 sameBytes (x ∷ xs) [] = false
 sameBytes (x ∷ xs) (y ∷ ys) = eqb x y && sameBytes xs ys
+
+-- f at each number below n
+unfoldable pub tableOf : ℕ → (ℕ → ℕ) → List ℕ
+tableOf zero f = []
+tableOf (suc n) f = f zero ∷ tableOf n (λ k. f (suc k))

@@ -6,7 +6,7 @@ use Prim.Native.Nat.{ℕ, zero, suc, _+_, _*_, _/_, _%_, _^_, _<_}
 use lib.Bits.{bitXor}
 use lib.Dec.{ltb}
 use lib.ListN.{getD}
-use Rattle.field.specs.Bytes.{fromBigEndian, toBigEndian}
+use Rattle.field.specs.Bytes.{fromBigEndian, toBigEndian, tableOf}
 use Rattle.field.specs.CheckBytes.{timesPower, valueAt, orZero, parity}
 
 -- check sum i, so far s, after one more byte
@@ -34,11 +34,6 @@ upFour x = fromBigEndian (parity 4 (toBigEndian x))
 
 unfoldable pub upEight : ℕ → ℕ
 upEight x = upFour (upFour x)
-
--- f at each number below n
-unfoldable pub tableOf : ℕ → (ℕ → ℕ) → List ℕ
-tableOf zero f = []
-tableOf (suc n) f = f zero ∷ tableOf n (λ k. f (suc k))
 
 -- the table of 128 entries: f at each value of each of eight half bytes, the lowest half byte first
 unfoldable pub halvesTable : (ℕ → ℕ) → List ℕ

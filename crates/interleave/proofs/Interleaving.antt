@@ -7,7 +7,7 @@ use Prim.Native.Nat.{ℕ, zero, suc, _+_, _-_, _*_, _/_, _%_, _≤_, _<_}
 use native.Mathlib.Nat.{mod-lt, div-add-mod'}
 use native.Mathlib.Omega.{arith}
 use lib.ListN.{length, getD}
-use Rattle.field.specs.Loops.{tableOf}
+use Rattle.field.specs.Bytes.{tableOf}
 use Rattle.field.proofs.Tables.{entry}
 use Rattle.interleave.specs.Interleaving.{interleave, columnStart, interleavedPlace, deinterleave}
 use Rattle.interleave.proofs.Remainders.{less-or-not, remainder-of, quotient-of, countOf, below-count, count-below}

@@ -1,4 +1,5 @@
--- Document 02, Item 14: the questions of dealing and its inverse, what the two calls answer and what they leave in the target. Assumes nothing.
+-- Document 02, Item 14: the questions of dealing and its inverse, what the two calls answer and what they leave in the target.
+-- Assumes nothing.
 use mathlib.Core.Path.{_≡_}
 use mathlib.Core.Bool.{Bool, true, false, cond, _&&_}
 use mathlib.Core.List.{List, _++_}

@@ -5,7 +5,7 @@ use mathlib.Core.List.{List, [], _∷_, _++_}
 use Prim.Native.Nat.{ℕ, zero, suc, _+_, _*_, _/_, _%_, min}
 use lib.Dec.{eqb}
 use lib.ListN.{length, getD}
-use Rattle.field.specs.Loops.{tableOf}
+use Rattle.field.specs.Bytes.{tableOf}
 
 -- of bytes that stand from a place of the file on, "all bytes whose place modulo W is" r, "in order"
 unfoldable pub withRemainder : ℕ → ℕ → ℕ → List ℕ → List ℕ

@@ -61,7 +61,7 @@ module _ (c : Card) (read : List ℕ) where
   unfolding lettersReading
   case-word n a = rw (eq-eqb _ _ n, a)
 
--- ---- 2 to 4
+-- ---- 2 to 4 and 27
 
 module _ (c : Card) (weights read : List ℕ) where
   pub case-card : (n : ℕ) → cardRefusal c weights ≡ n → (n ≡ 0 → ⊥) → readCheck c weights read ≡ refused n

@@ -60,7 +60,7 @@ roomy {c} {degrees} {start} {wanted} {buffer} {numbers} file e =
 
 -- ---- the answers
 
--- after 2 to 4, only 5 to 8 are left
+-- after 2 to 4 and 27, only 5 to 8 are left
 pub own : (c : Card) (ws : List ℕ) (file start wanted buffer numbers : ℕ) → cardRefusal c ws ≡ 0
     → writerRefusal c ws file start wanted buffer numbers ≡ ownRefusal c (weightCount ws) file start wanted buffer numbers
 unfolding writerRefusal

@@ -1,4 +1,5 @@
--- Document 01, "Shelf": "The read check's C form takes the same inputs and a lent buffer." Assumes nothing.
+-- Document 01, "Shelf": "The read check's C form takes the same inputs and a lent buffer"; and the card of what a C host hands over, with
+-- the two numbers of document 02, Item 14. Assumes nothing.
 use mathlib.Core.Bool.{cond, not}
 use mathlib.Core.List.{List, _++_}
 use Prim.Native.Nat.{ℕ, _+_}

@@ -1,4 +1,4 @@
--- Document 01, "Questions in their order": the read check, 2 to 4 and then 9 to 13, and what it answers. Assumes nothing.
+-- Document 01, "Questions in their order": the read check, 2 to 4 and 27, then 9 to 13, and what it answers. Assumes nothing.
 use mathlib.Core.Path.{_≡_}
 use mathlib.Core.Bool.{Bool, true, cond, _&&_}
 use mathlib.Core.List.{List, [], _∷_, _++_}

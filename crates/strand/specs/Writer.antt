@@ -80,7 +80,7 @@ ownRefusal c D fileLength start wanted outLength listLength =
     (cond (eqb start 0) 6
     (cond (leb wanted 1000000 && leb (wanted * (strandBases c + 1)) outLength) (cond (leb D listLength) 0 8) 7)) 5
 
--- 2 to 4, and then these
+-- 2 to 4 and 27, and then these
 unfoldable pub writerRefusal : Card → List ℕ → ℕ → ℕ → ℕ → ℕ → ℕ → ℕ
 writerRefusal c weights fileLength start wanted outLength listLength =
     cond (eqb (cardRefusal c weights) 0) (ownRefusal c (weightCount weights) fileLength start wanted outLength listLength)

@@ -10,6 +10,22 @@ use crate::read_check;
 use crate::read_check::ReadOutcome;
 use droplet::card::Card;
 
+// The card of the numbers that a C host hands over, for all C forms.
+pub fn handed_card(f: u32, l: u8, r: u8, m: u8, lo: u16, hi: u16, dealt: u8, width: u32) -> Card
+    ensures { λ c. ⌜ c ≡ handedCard f l r m lo hi dealt width ⌝ }
+{
+    Card {
+        f,
+        l,
+        r,
+        m,
+        lo,
+        hi,
+        interleaved: dealt != 0,
+        width,
+    }
+}
+
 // Question 16, and then the droplet into the lent buffer.
 fn hand_over(seed: u32, l: usize, payload: &[u8], out: &mut [u8]) -> u32
     requires { ⌜ (l ≤ 64) × (length (now payload) ≡ 64) ⌝ }
@@ -40,17 +56,7 @@ pub extern "C" fn fountain_check_read(
     ensures { λ n. ⌜ handed n (now (out .exit)) ≡ handedOver l (now (out .entry))
         (readCheck (handedCard f l r m lo hi dealt width) (now (weights .entry)) (now (read .entry))) ⌝ }
 {
-    let interleaved = dealt != 0;
-    let card = Card {
-        f,
-        l,
-        r,
-        m,
-        lo,
-        hi,
-        interleaved,
-        width,
-    };
+    let card = handed_card(f, l, r, m, lo, hi, dealt, width);
     let answer = read_check::check_read(card, weights, read);
     let outcome = answer.outcome;
     let payload = answer.payload;

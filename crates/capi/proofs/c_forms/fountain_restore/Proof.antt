@@ -11,33 +11,36 @@ use Rattle.capi.proofs.c_forms.fountain_restore.Statement.{statement}
 use Rattle.capi.proofs.c_forms.fountain_restore.Tie as tie
 
 -- the answer's numbers, with the restorer's own promise
-formed : {c : Card} {weights buffer : List ℕ} {count : ℕ} {file marks list : List ℕ} {r : RestoreAnswer} {file′ marks′ list′ : List ℕ}
-    → RestorePromise c weights buffer count file marks list r file′ marks′ list′
+formed : {c c′ : Card} {weights buffer : List ℕ} {count : ℕ} {file marks list : List ℕ} {r : RestoreAnswer} {file′ marks′ list′ : List ℕ}
+    → c ≡ c′ → RestorePromise c weights buffer count file marks list r file′ marks′ list′
     → (answer : List ℕ) (n : ℕ) (answer′ : List ℕ) → returned n answer′ ≡ restoreReturned answer (restoreAnswer r)
-    → RestoreForm c weights buffer count file marks list answer n file′ marks′ list′ answer′
-formed p answer n answer′ e = record {
+    → RestoreForm c′ weights buffer count file marks list answer n file′ marks′ list′ answer′
+formed same p answer n answer′ e = rw (← same) (record {
   returns = e ∙ ap (restoreReturned answer) (p .says);
   fills = p .fills;
   sets = p .sets;
   keeps = p .keeps;
   untouched = p .untouched;
-}
+})
 
 returns : tie.Need-returns
 unfolding restoreReturned
 returns c =
-    formed (c .before .before .before .before .before .before .before .before .before .restore .ensures) _ _ _ (rw (c .before .n .given .1))
+    let call = c .before .before .before .before .before .before .before .before .before in
+    formed (call .before .before .before .before .handed-card .ensures) (call .restore .ensures) _ _ _ (rw (c .before .n .given .1))
 
 returns-2 : tie.Need-returns-2
 unfolding restoreReturned
 returns-2 c =
     let n = c .before .before .before .before in
-    formed (n .before .before .before .before .before .before .before .before .restore .ensures) _ _ _ (rw (n .sheet .given .1))
+    let call = n .before .before .before .before .before .before .before .before in
+    formed (call .before .before .before .before .handed-card .ensures) (call .restore .ensures) _ _ _ (rw (n .sheet .given .1))
 
 pub fountain-restore-spec : {M : Type 1} → statement M
 fountain-restore-spec =
     tie.close
     (tie.spec
+    (λ c κs. search needs)
     (λ c κs. search needs)
     (λ c. search needs)
     (λ c. search needs)

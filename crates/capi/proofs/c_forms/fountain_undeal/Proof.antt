@@ -5,15 +5,20 @@ use Rattle.capi.proofs.c_forms.fountain_undeal.Statement.{statement}
 use Rattle.capi.proofs.c_forms.fountain_undeal.Tie as tie
 
 returns : tie.Need-returns
-returns c = refusal-formed (c .before .before .before .before .before .deinterleave-file .ensures) _ (c .before .n .given .1)
+returns c =
+    let call = c .before .before .before .before .before in
+    refusal-formed (call .before .before .handed-card .ensures) (call .deinterleave-file .ensures) _ (c .before .n .given .1)
 
 returns-2 : tie.Need-returns-2
-returns-2 c = done-formed (c .before .before .before .before .deinterleave-file .ensures) (c .enum-told .given .1)
+returns-2 c =
+    let call = c .before .before .before .before in
+    done-formed (call .before .before .handed-card .ensures) (call .deinterleave-file .ensures) (c .enum-told .given .1)
 
 pub fountain-undeal-spec : {M : Type 1} → statement M
 fountain-undeal-spec =
     tie.close
     (tie.spec
+    (λ c κs. search needs)
     (λ c κs. search needs)
     (λ c. search needs)
     (λ c. search needs)

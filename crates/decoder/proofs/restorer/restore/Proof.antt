@@ -7,7 +7,7 @@ use borrow.Author.Needs.{needs}
 use Rattle.decoder.proofs.restorer.restore.Statement.{statement}
 use Rattle.decoder.proofs.restorer.restore.Tie as tie
 
--- the questions 2 to 4 have let the card pass
+-- the questions 2 to 4 and 27 have let the card pass
 allowed : (c : tie.After-plan)
     → (let x = c .before .before .before .before .before .before .before .before .args in
     let plan = c .plan .given .0 .0 in

@@ -36,7 +36,7 @@ module _ (c : Card) (weights buffer : List ℕ) (count : ℕ) (read : List ℕ) 
         let letters = case-letters c weights read legal in
         record { says = rw (legal, e, letters) (k .says); leaves = rw (legal, e, letters) (k .leaves) }
 
--- past the questions 2 to 4
+-- past the questions 2 to 4 and 27
 legal : (c : tie.After-enum-told) → (let args = c .before .before .before .before .before .before .args in
     Passed (args .card) (args .weights .now) (c .enum-told .given .0 .0 .segments) (c .enum-told .given .0 .0 .degrees) (c .enum-told .given .0 .0 .sum))
 legal c = passed _ _ (c .before .before .check-plan .ensures) (c .enum-told .given .1)

@@ -1,10 +1,10 @@
 -- `parity_four` meets its contract: the tables are computed. Assumes nothing.
 use mathlib.Core.Path.{refl, ap, _∙_}
 use borrow.Author.Needs.{needs}
-use Rattle.field.specs.Bytes.{padded, xorLists, fromBigEndian, toBigEndian}
+use Rattle.field.specs.Bytes.{padded, xorLists, fromBigEndian, toBigEndian, tableOf}
 use Rattle.field.specs.CheckBytes.{parity, remainderAfter, multiple, byRoot, timesPower, double}
 use Rattle.field.specs.Shift.{shiftUp}
-use Rattle.field.specs.Loops.{halvesTable, tableOf, upFour, upEight}
+use Rattle.field.specs.Loops.{halvesTable, upFour, upEight}
 use Rattle.field.proofs.check_four.parity_four.Statement.{statement}
 use Rattle.field.proofs.check_four.parity_four.Tie as tie
 

@@ -2,10 +2,10 @@
 use mathlib.Core.Path.{refl, sym, ap, _∙_}
 use Prim.Native.Nat.{ℕ}
 use borrow.Author.Needs.{needs}
-use Rattle.field.specs.Bytes.{xorLists, fromBigEndian, toBigEndian}
+use Rattle.field.specs.Bytes.{xorLists, fromBigEndian, toBigEndian, tableOf}
 use Rattle.field.specs.CheckBytes.{syndromes, horner, parity, remainderAfter, multiple, byRoot, timesPower, double}
 use Rattle.field.specs.Shift.{shiftUp}
-use Rattle.field.specs.Loops.{halvesTable, tableOf, upFour, upEight}
+use Rattle.field.specs.Loops.{halvesTable, upFour, upEight}
 use Rattle.field.proofs.Remainders.{syndromes-by}
 use Rattle.field.proofs.check_four.syndromes_four.Statement.{statement}
 use Rattle.field.proofs.check_four.syndromes_four.Tie as tie

@@ -1,4 +1,4 @@
--- `check_read` meets its contract: a card that the questions 2 to 4 refuse, or the rest of the questions. Assumes nothing.
+-- `check_read` meets its contract: a card that the questions 2 to 4 and 27 refuse, or the rest of the questions. Assumes nothing.
 use Rattle.droplet.proofs.CardAnswers.{passed, stopped}
 use Rattle.strand.proofs.ReadingCases.{case-card, case-letters}
 use borrow.Author.Needs.{needs}

@@ -9,7 +9,7 @@ use borrow.Author.Needs.{needs}
 use Rattle.strand.proofs.writer.write_strands.Statement.{statement}
 use Rattle.strand.proofs.writer.write_strands.Tie as tie
 
--- the questions 2 to 4 have let the card pass
+-- the questions 2 to 4 and 27 have let the card pass
 ready : (c : tie.After-known-told)
     → (let a = c .before .before .before .before .before .before .before .before .args in let p = c .before .plan .given .0 .0 in
     Passed (a .card) (a .weights .now) (p .segments) (p .degrees) (p .sum))
