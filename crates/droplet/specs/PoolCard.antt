@@ -40,7 +40,7 @@ weightsStart = 20
 unfoldable pub weightsEnd : List ℕ → ℕ
 weightsEnd card = weightsStart + numberAt 18 2 card
 
--- the seven bytes of a fourth field stand behind the weights
+-- whether the field is there: behind the weights stand at least the seven bytes of a fourth
 unfoldable pub widthThere : List ℕ → Bool
 widthThere card = leb (weightsEnd card + 7) (length card)
 
@@ -70,7 +70,7 @@ carried c = record {
   width = cond (c .interleaved) (c .width) 0;
 }
 
--- the bytes of its weights
+-- the bytes of a card's weights
 abbrev pub cardWeights : List ℕ → List ℕ
 cardWeights card = take (numberAt 18 2 card) (drop weightsStart card)
 
