@@ -101,7 +101,7 @@ module _ (c : Card) (ws : List ℕ) where
           → ((s : ℕ) (p : List ℕ) → readCheck c ws read ≡ droplet s p → PrintedStrand c ws file read) → InReading (OfFile c ws file) o
       reading-ours read (refused n) e f = tt
       reading-ours read (droplet s p) e f =
-          let legal = printed-legal c ws fine file bytes read (f s p e) in
+          let legal = printed-legal c ws file bytes read (f s p e) in
           let same : droplet s p ≡ droplet (legal .0) (payloadFor c ws file (legal .0)) = sym e ∙ legal .1 in
           let seed : s ≡ legal .0 = cc in
           let part : p ≡ payloadFor c ws file (legal .0) = cc in

@@ -26,7 +26,6 @@ pub mod StoreChain
 pub mod StoreDroplets
 pub mod SoundRestore
 pub mod DemandThree
-pub mod PrintedLines
 pub mod PrintedReads
 pub mod FirstOfSeed
 pub mod FileReads

@@ -6,19 +6,17 @@ use mathlib.Core.Path.{_≡_}
 use mathlib.Core.Bool.{true}
 use mathlib.Core.List.{List, [], _∷_, _++_}
 use mathlib.Core.Logic.{_⊎_}
-use Prim.Native.Nat.{ℕ, _+_, _*_, _^_, _<_, _≤_}
-use lib.ListN.{length, take, drop}
+use Prim.Native.Nat.{ℕ, _*_, _<_, _≤_}
+use lib.ListN.{length, take}
 use Rattle.field.specs.Bytes.{All, AllBytes}
 use Rattle.droplet.specs.declared.card.Card.{Card}
-use Rattle.droplet.specs.PoolCard.{segmentCount, strandBases, cardWeights}
+use Rattle.droplet.specs.PoolCard.{segmentCount, cardWeights}
 use Rattle.droplet.specs.Questions.{accepted, cardReading}
 use Rattle.droplet.specs.Droplet.{segment, payload, segmentsOf}
 use Rattle.interleave.specs.declared.file.ReorderAnswer.{ReorderAnswer}
 use Rattle.interleave.specs.InterleaveCalls.{done, reorderAnswer, InterleavePromise, DeinterleavePromise}
-use Rattle.strand.specs.declared.writer.Run.{Run}
-use Rattle.strand.specs.declared.writer.WriteAnswer.the-variants as writer
 use Rattle.strand.specs.ReadCheck.{droplet, readCheck}
-use Rattle.strand.specs.Writer.{WriterPromise}
+use Rattle.strand.specs.WriterRuns.{PrintedRun, printedLine}
 use Rattle.decoder.specs.declared.store.StoreAnswer.the-variants as reply
 use Rattle.decoder.specs.declared.restorer.Sheet.{Sheet}
 use Rattle.decoder.specs.declared.restorer.RestoreAnswer.the-variants as sheet
@@ -65,20 +63,10 @@ module _ (c : Card) (weights : List ℕ) where
 
   -- a strand that the writer prints for a file: the n letters of a line that a call, not refused, left in its buffer
   pub record PrintedStrand (file read : List ℕ) : Type 0 where
-    pub start : ℕ
-    pub wanted : ℕ
-    pub budget : ℕ
-    pub out : List ℕ
-    pub list : List ℕ
-    pub run : Run
-    pub out′ : List ℕ
-    pub list′ : List ℕ
-    pub wrote : WriterPromise c weights file start wanted budget out list (writer.Written run) out′ list′
-    -- "a 32-bit number, as the start is"
-    pub fits : start < 2 ^ 32
+    pub by : PrintedRun c weights file
     pub line : ℕ
-    pub made : line < run .made
-    pub letters : read ≡ take (strandBases c) (drop (line * (strandBases c + 1)) out′)
+    pub made : line < by .run .made
+    pub letters : read ≡ printedLine by line
 
   -- each read that the read check accepts is a strand that the writer prints for this file
   abbrev pub LegalPrinted : List ℕ → List (List ℕ) → Type 0

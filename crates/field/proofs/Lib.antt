@@ -7,6 +7,11 @@ pub mod LentParts
 pub mod BigEndian
 pub mod Words
 pub mod Schedule
+pub mod Iterates
+pub mod Primes
+pub mod SeedProducts
+pub mod SeedPowers
+pub mod SeedPeriod
 pub mod Powers
 pub mod Horner
 pub mod Weights

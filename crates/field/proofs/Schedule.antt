@@ -1,17 +1,17 @@
--- The seed schedule: the step keeps XOR, is one to one, never gives 0 for another seed; iterated steps and stretches of
--- seeds add up. Assumes nothing.
+-- The seed schedule: the step keeps XOR and never gives 0 for another seed; iterated steps and stretches of seeds add up.
+-- Assumes nothing.
 use mathlib.Core.Path.{_≡_, refl, ap, _∙_}
 use mathlib.Core.List.{_∷_, _++_}
 use Prim.Native.Nat.{ℕ, zero, suc, _+_, _*_, _/_, _%_, _^_, _<_, _≤_}
 use native.Mathlib.Nat.{zero-add, suc-add}
 use native.Mathlib.Omega.{arith}
 use native.Mathlib.Decide.{decLt}
-use lib.Bits.{bitXor, xor-lt, xor-mod, xor-self}
+use lib.Bits.{bitXor, xor-mod}
 use lib.Dec.{lit<}
 use lib.ListN.{length, getD}
 use Rattle.field.specs.Shift.{shiftUp}
 use Rattle.field.specs.Generator.{schedulePolynomial, seedAfter, iterate, seedsFrom}
-use Rattle.field.proofs.Xor.{shiftUp-xor, shiftUp-lt, xor-zero-eq}
+use Rattle.field.proofs.Xor.{shiftUp-xor, shiftUp-lt}
 
 pub step-xor : (a b : ℕ) → seedAfter (bitXor a b) ≡ bitXor (seedAfter a) (seedAfter b)
 unfolding seedAfter
@@ -37,7 +37,7 @@ step-high s l h =
     let u : s * 2 % 2 ^ 32 % 2 ≡ 0 = omega arith in
     rw o (xor-mod (s * 2 % 2 ^ 32) schedulePolynomial 1 ∙ ap (λ (n : ℕ). bitXor n 1) u)
 
-pub step-zero : (s : ℕ) → s < 2 ^ 32 → seedAfter s ≡ 0 → s ≡ 0
+step-zero : (s : ℕ) → s < 2 ^ 32 → seedAfter s ≡ 0 → s ≡ 0
 step-zero s h e =
     elim (decLt s (2 ^ 31)) [
       | yes l ↦ omega (arith, step-low s l)
@@ -47,12 +47,6 @@ step-zero s h e =
 pub step-positive : (s : ℕ) → 0 < s → s < 2 ^ 32 → 0 < seedAfter s
 step-positive s pos h =
     elim (decLt 0 (seedAfter s)) [ yes l ↦ l | no n ↦ absurd (let z : s ≡ 0 = step-zero s h (omega arith) in omega arith) ]
-
-pub step-injective : (a b : ℕ) → a < 2 ^ 32 → b < 2 ^ 32 → seedAfter a ≡ seedAfter b → a ≡ b
-step-injective a b ha hb e =
-    xor-zero-eq a b
-    (step-zero (bitXor a b) (xor-lt 32 a b ha hb)
-    (step-xor a b ∙ ap (λ (n : ℕ). bitXor n (seedAfter b)) e ∙ xor-self (seedAfter b)))
 
 -- ---- iterated steps
 

@@ -1,6 +1,6 @@
 -- Document 01, "Generator and seed schedule". All state is 32 bits wide. Assumes nothing.
 use mathlib.Core.List.{List, [], _∷_}
-use Prim.Native.Nat.{ℕ, zero, suc, _+_, _*_, _/_, _%_, _^_}
+use Prim.Native.Nat.{ℕ, zero, suc, _+_, _*_, _/_, _%_, _^_, _<_}
 use lib.Bits.{bitXor}
 use Rattle.field.specs.declared.generator.Draw.{Draw}
 use Rattle.field.specs.Shift.{shiftUp}
@@ -37,6 +37,10 @@ numberDrawn d = (d .x + d .w) % 2 ^ 32
 -- x^32 + x^7 + x^6 + x^2 + 1 without its highest term
 abbrev pub schedulePolynomial : ℕ
 schedulePolynomial = 0xC5
+
+-- "Seed 0 is never legal": a seed is no 0, and of 32 bits
+abbrev pub IsSeed : ℕ → Type 0
+IsSeed s = (0 < s) × (s < 2 ^ 32)
 
 -- "The schedule steps a seed": the seed after s
 unfoldable pub seedAfter : ℕ → ℕ

@@ -17,4 +17,5 @@ pub mod Lines
 pub mod Turns
 pub mod WriterAnswers
 pub mod RoundTrips
+pub mod PrintedRuns
 pub mod ReadAnswers

@@ -60,6 +60,13 @@ roomy {c} {degrees} {start} {wanted} {buffer} {numbers} file e =
 
 -- ---- the answers
 
+-- a call that no question refuses has a card that none refuses
+pub accepted-card : (c : Card) (ws : List ℕ) (file start wanted buffer numbers : ℕ) → writerRefusal c ws file start wanted buffer numbers ≡ 0
+    → cardRefusal c ws ≡ 0
+unfolding writerRefusal
+accepted-card c ws file start wanted buffer numbers e =
+    elim (either (eqb (cardRefusal c ws) 0)) [ inl t ↦ eqb-true (cardRefusal c ws) 0 t | inr t ↦ rw t at e ]
+
 -- after 2 to 4 and 27, only 5 to 8 are left
 pub own : (c : Card) (ws : List ℕ) (file start wanted buffer numbers : ℕ) → cardRefusal c ws ≡ 0
     → writerRefusal c ws file start wanted buffer numbers ≡ ownRefusal c (weightCount ws) file start wanted buffer numbers

@@ -2,8 +2,9 @@
 use mathlib.Core.Path.{_≡_}
 use mathlib.Core.Bool.{true}
 use mathlib.Core.List.{List}
-use Prim.Native.Nat.{ℕ, _^_, _<_}
+use Prim.Native.Nat.{ℕ}
 use Rattle.field.specs.Bytes.{All, AllBytes}
+use Rattle.field.specs.Generator.{IsSeed}
 use Rattle.droplet.specs.declared.card.Card.{Card}
 use Rattle.droplet.specs.PoolCard.{segmentCount}
 use Rattle.droplet.specs.Questions.{cardRefusal}
@@ -18,10 +19,6 @@ use Rattle.strand.specs.WriterRuns.{passingFirst}
 abbrev pub ReadBack : Card → List ℕ → List ℕ → ℕ → Type 0
 ReadBack c weights file seed =
     readCheck c weights (wordLetters (seedWord c weights file seed)) ≡ droplet seed (payload (c .l) file (segmentsOf weights (segmentCount c) seed))
-
--- a seed is no 0 and of 32 bits
-abbrev pub IsSeed : ℕ → Type 0
-IsSeed seed = (0 < seed) × (seed < 2 ^ 32)
 
 -- so is every strand that passes the screen
 abbrev pub StrandsReadBack : Type 0

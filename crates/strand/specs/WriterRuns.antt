@@ -1,13 +1,14 @@
--- What a run of the writer did, in the words of document 01, "Writer", and of document 02, Item 12; that it can be continued; and that
--- every answer of the writer tells of such a run. Assumes nothing.
+-- What a run of the writer did, in the words of document 01, "Writer", and of document 02, Item 12; that it can be continued; that
+-- every answer of the writer tells of such a run; and a run with the lines that it printed. Assumes nothing.
 use mathlib.Core.Path.{_≡_}
 use mathlib.Core.Bool.{cond}
 use mathlib.Core.List.{List, [], _∷_, _++_}
 use mathlib.Core.Logic.{_↔_}
-use Prim.Native.Nat.{ℕ, _+_, _<_, _≤_}
-use lib.ListN.{length, drop}
+use Prim.Native.Nat.{ℕ, _+_, _*_, _^_, _<_, _≤_}
+use lib.ListN.{length, take, drop}
 use Rattle.field.specs.Generator.{seedAfter, iterate, seedsFrom}
 use Rattle.droplet.specs.declared.card.Card.{Card}
+use Rattle.droplet.specs.PoolCard.{strandBases}
 use Rattle.strand.specs.declared.limits.Verdict.{Verdict}
 use Rattle.strand.specs.declared.limits.Verdict.the-variants.{Passes, LongRun, GcAlone}
 use Rattle.strand.specs.declared.writer.Run.{Run}
@@ -82,3 +83,21 @@ abbrev pub AnswersRun : Type 0
 AnswersRun = (c : Card) (weights file : List ℕ) (start wanted budget : ℕ) (out list : List ℕ) (run : Run) (out′ list′ : List ℕ)
     → WriterPromise c weights file start wanted budget out list (answer.Written run) out′ list′
     → AnsweredRun c weights file start wanted budget out list run out′
+
+-- a call of the writer for a file that was not refused: what it was handed, its answer, and what it left
+pub record PrintedRun (c : Card) (weights file : List ℕ) : Type 0 where
+  pub start : ℕ
+  pub wanted : ℕ
+  pub budget : ℕ
+  pub out : List ℕ
+  pub list : List ℕ
+  pub run : Run
+  pub out′ : List ℕ
+  pub list′ : List ℕ
+  pub wrote : WriterPromise c weights file start wanted budget out list (answer.Written run) out′ list′
+  -- "a 32-bit number, as the start is"
+  pub fits : start < 2 ^ 32
+
+-- the n letters of a line that it left in its buffer
+abbrev pub printedLine : {c : Card} {weights file : List ℕ} → PrintedRun c weights file → ℕ → List ℕ
+printedLine {c} p i = take (strandBases c) (drop (i * (strandBases c + 1)) (p .out′))
