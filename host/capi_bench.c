@@ -1,8 +1,9 @@
 /* Runs document 01's bench example through all functions and compares every number and every byte with the values that
  * stand there or follow from its rules: reads card P and cuts it again, writes strands of file Q, checks and stores the reads of
  * seeds 2, 1, 3, and restores. On the way it has calls refused, and runs document 02's example of runs over the joints (Item 1) and the
- * header's examples of dropped strands (Item 12) and of a file of seven bytes, dealt by W = 3 (Item 14). Lent buffers and answers
- * end in bytes that must survive, but in the job with a dealt file, and all of them must survive a refusal. Returns 1 if anything differs.
+ * header's examples of dropped strands (Item 12), of a file of seven bytes, dealt by W = 3 (Item 14), and of positions of the seed
+ * schedule, with a job that two writers share (Item 7). Lent buffers and answers end in bytes that must survive, but in these two
+ * jobs, and all of them must survive a refusal. Returns 1 if anything differs.
  *
  *   capi_bench bench.card */
 #include <stdio.h>
@@ -465,6 +466,59 @@ static void drops(const struct pool *p)
     }
 }
 
+/* The header's positions, and others that follow from document 01: the one of seed 1 falls out at its 32nd step, and the schedule is
+ * back after 4,294,967,295 steps (document 02, Item 7). */
+static void seeds_at(void)
+{
+    static const struct {
+        uint32_t start, steps, seed;
+    } positions[] = {
+        {0x12345678, 0, 0x12345678}, {0x12345678, 1000000, 0x6BF1B778}, {0x12345678, 2000000, 0x1CA43C7F},
+        {0x12345678, 3000000, 0x44BC2AAD}, {1, 1, 2}, {0x80000000, 1, 0xC5}, {1, 31, 0x80000000}, {1, 32, 0xC5},
+        {0x12345678, 0xFFFFFFFF, 0x12345678}, {0xFFFFFFFF, 0xFFFFFFFF, 0xFFFFFFFF}, {2, 0xFFFFFFFE, 1},
+    };
+    uint64_t a[2];
+    lend(a, sizeof a);
+    number("seed at: 6", fountain_seed_at(0, 0, a), 6);
+    number("seed at: 6, with steps", fountain_seed_at(0, 1000000, a), 6);
+    kept("the answer of a refused start", a, sizeof a);
+    for (size_t i = 0; i < sizeof positions / sizeof positions[0]; i++) {
+        const uint64_t wanted[1] = {positions[i].seed};
+        lend(a, sizeof a);
+        number("seed at", fountain_seed_at(positions[i].start, positions[i].steps, a), 0);
+        answers("the seed at a position", a, wanted, 1);
+    }
+}
+
+/* The first job of `drops` by two writers: the first has the schedule's first 20 seeds and the second those from position 20 on. They
+ * print what one writer prints, and no seed twice. */
+static void split_job(const struct pool *p)
+{
+    static const uint32_t start = 0x12345678;
+    struct pool tight = *p;
+    uint8_t whole[10 * LINE], parts[10 * LINE], droplets[10][RECORD];
+    uint32_t list[D];
+    uint64_t a[6], second[1];
+    tight.m = 3;
+    tight.lo = 450;
+    tight.hi = 550;
+    number("write whole", fountain_write(CARD(&tight), Q, 4, start, 10, 62, whole, sizeof whole, list, D, a), 0);
+    number("made whole", a[1], 10);
+    number("write the first part", fountain_write(CARD(&tight), Q, 4, start, 10, 20, parts, sizeof parts, list, D, a), 0);
+    number("made in the first part", a[1], 2);
+    number("seed at position 20", fountain_seed_at(start, 20, second), 0);
+    number("where the first part would go on", a[3], second[0]);
+    number("write the second part", fountain_write(CARD(&tight), Q, 4, (uint32_t)second[0], 8, 42, parts + 2 * LINE,
+                                                   sizeof parts - 2 * LINE, list, D, a), 0);
+    number("made in the second part", a[1], 8);
+    bytes("the two parts", parts, whole, sizeof whole);
+    for (int i = 0; i < 10; i++) {
+        number("check a line", fountain_check_read(CARD(&tight), parts + i * LINE, N, droplets[i], RECORD), 0);
+        for (int j = 0; j < i; j++)
+            number("a seed printed twice", memcmp(droplets[i], droplets[j], 4) == 0, 0);
+    }
+}
+
 /* Stores the reads of seeds 2, 1 and 3 in this order, each twice. The shelf has no space for a fourth record. */
 static void store_reads(const struct pool *p, uint8_t *store, size_t store_len)
 {
@@ -572,6 +626,8 @@ int main(int argc, char **argv)
     check_reads(&p);
     joints(&p);
     drops(&p);
+    seeds_at();
+    split_job(&p);
     lend(store, sizeof store);
     store_reads(&p, store, sizeof store);
     store_other_payload(&p);

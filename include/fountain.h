@@ -1,7 +1,7 @@
-/* Card reader, card cutter, dealing and its inverse, writer, read check, store (the hall's shelf) and restorer of a DNA-storage
- * pool, for C and C++ hosts.
+/* Card reader, card cutter, dealing and its inverse, writer, jump along the seed schedule, read check, store (the hall's shelf) and
+ * restorer of a DNA-storage pool, for C and C++ hosts.
  *
- * Link libcapi.a and libstrand.a: fountain_check_read is in libstrand.a, the other seven are in libcapi.a. The two have
+ * Link libcapi.a and libstrand.a: fountain_check_read is in libstrand.a, the other eight are in libcapi.a. The two have
  * no name in common, and together need nothing but memcpy and memset.
  *
  * Each function returns 0, or the number of the first of its questions that says no. They are asked in the order in which each
@@ -25,7 +25,7 @@
 extern "C" {
 #endif
 
-/* All functions but the card reader take the numbers of a pool card and its weights:
+/* All functions but the card reader and fountain_seed_at take the numbers of a pool card and its weights:
  *
  *   F            file length in bytes, 1 to 8,388,608
  *   L            segment length in bytes, 1 to 64
@@ -159,6 +159,29 @@ uint32_t fountain_write(uint32_t F, uint8_t L, uint8_t R, uint8_t m, uint16_t lo
                         uint8_t *out, size_t out_len,
                         uint32_t *list, size_t list_len,
                         uint64_t answer[6]);
+
+/* The seed at a position of the seed schedule: so many steps after a start.
+ *
+ *   start, steps      the start, not 0, and how many steps to take, none included
+ *   answer            lent for one number: the seed
+ *
+ * The start comes back after 4,294,967,295 steps and not sooner, and so no strand of one call of fountain_write has a seed that another
+ * strand of it has. To split a job over several writers, give each a stretch of the schedule, the first from position 0 on, each
+ * other from where the one before it ends. A writer's start is then the seed at the first position of its stretch, and its budget
+ * at most the stretch's length. If the lengths sum to at most 4,294,967,295, no two of the writers print one seed, also where one of
+ * them is done before its stretch is at its end. All of them must count from one start: the stretches of two starts that
+ * were chosen each by itself may overlap. For example, from start 0x12345678, stretches of 1,000,000:
+ *
+ *      position     the writer's start
+ *             0             0x12345678
+ *     1,000,000             0x6BF1B778
+ *     2,000,000             0x1CA43C7F
+ *     3,000,000             0x44BC2AAD
+ *
+ * Returns 0 and fills answer. Otherwise:
+ *
+ *    6  start is 0 */
+uint32_t fountain_seed_at(uint32_t start, uint32_t steps, uint64_t answer[1]);
 
 /* Checks one read under a pool card.
  *

@@ -6,10 +6,11 @@
 //! document 02, and each function quotes the sentence it renders, of document 01
 //! where no other is named.
 //!
-//! Every public call (card reading, card cutting, dealing, undealing, read check,
-//! its C form, writing, shelving, restoring) takes slices and answers a struct, an
-//! enum, a number or nothing, or a `Refusal` holding the number of the first
-//! question answered "no". A refusal changes no buffer.
+//! Every public call (card reading, card cutting, dealing, undealing, the seed at a
+//! schedule position, read check, its C form, writing, shelving, restoring) takes
+//! numbers and slices and answers a struct, an enum, a number or nothing, or a
+//! `Refusal` holding the number of the first question answered "no". A refusal
+//! changes no buffer.
 //!
 //! The other functions are building blocks. Those that need an accepted card
 //! (questions 2 to 4 and 27 all "yes") say so.
@@ -25,6 +26,7 @@ pub mod listing;
 pub mod pool_card;
 pub mod questions;
 pub mod restorer;
+pub mod schedule_position;
 pub mod shelf;
 pub mod vectors;
 pub mod writer;
@@ -37,5 +39,6 @@ pub use listing::listing;
 pub use pool_card::{read_card, Card, Handed};
 pub use questions::{questions_2_to_4, Refusal};
 pub use restorer::{restore, Restored};
+pub use schedule_position::seed_at;
 pub use shelf::{shelve, Shelved};
 pub use writer::{write, Stop, Written};

@@ -1,6 +1,6 @@
--- The C forms of the card reader, the card cutter, the writer, storing, restoring, dealing and undealing: for each the number returned and
--- the lent answer, by the cases of what the call itself answers, and with it the buffers. A refusal leaves the answer as it was. Assumes
--- nothing.
+-- The C forms of the card reader, the card cutter, the writer, the seed at a position, storing, restoring, dealing and undealing: for each
+-- the number returned and the lent answer, by the cases of what the call itself answers, and with it the buffers. A refusal leaves the
+-- answer as it was. Assumes nothing.
 use mathlib.Core.Path.{_≡_}
 use mathlib.Core.Bool.{Bool, false, cond}
 use mathlib.Core.List.{List, [], _∷_}
@@ -15,6 +15,7 @@ use Rattle.interleave.specs.InterleaveCalls.{Reordered, reorderReply, reorderTa
 use Rattle.strand.specs.declared.writer.Stop.{Stop}
 use Rattle.strand.specs.declared.writer.Stop.the-variants.{Done, Spent}
 use Rattle.strand.specs.Writer.{Written, writerAnswer, WriterLeaves}
+use Rattle.split.specs.SeedPosition.{SeedReply}
 use Rattle.decoder.specs.Store.{Stored, storeRead, keptAnswer, keptBuffer}
 use Rattle.decoder.specs.Restorer.{Restored, restore, restoreRefusal, endAnswer, endState}
 
@@ -58,6 +59,11 @@ pub record WriteForm (c : Card) (weights file : List ℕ) (start wanted budget :
     (out′ list′ answer′ : List ℕ) : Type 0 where
   pub returns : returned n answer′ ≡ writeReturned answer (writerAnswer c weights file start wanted budget (length out) (length list))
   pub leaves : WriterLeaves c weights file start wanted budget out list out′ list′
+
+-- the seed at a position of the schedule
+unfoldable pub seedReturned : List ℕ → SeedReply → Returned
+seedReturned answer (SeedReply.seed s) = returned 0 (s ∷ [])
+seedReturned answer (SeedReply.refused n) = returned n answer
 
 -- storing: 0 for accepted, 1 for a repeat, and the count after it
 unfoldable pub storeReturned : List ℕ → Stored → Returned

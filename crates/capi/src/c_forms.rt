@@ -2,7 +2,8 @@ ghost use mathlib.Core.Path.{_≡_};
 ghost use mathlib.Core.Bool.{true, false};
 ghost use Rattle.droplet.specs.Questions.{cardReading};
 ghost use Rattle.strand.specs.CForm.{handedCard};
-ghost use Rattle.capi.specs.CForms.{flagNumber, cardReturned, stopNumber, CutForm, WriteForm, StoreForm, RestoreForm, ReorderForm};
+ghost use Rattle.split.specs.SeedPosition.{seedAt};
+ghost use Rattle.capi.specs.CForms.{flagNumber, cardReturned, stopNumber, seedReturned, CutForm, WriteForm, StoreForm, RestoreForm, ReorderForm};
 ghost use Rattle.capi.specs.CForms.Returned.{returned};
 use decoder::restorer;
 use decoder::restorer::RestoreAnswer;
@@ -14,6 +15,8 @@ use droplet::card_cutter;
 use droplet::card_cutter::CutAnswer;
 use interleave::file;
 use interleave::file::ReorderAnswer;
+use split::jump;
+use split::jump::SeedAnswer;
 use strand::c_form::handed_card;
 use strand::writer;
 use strand::writer::Stop;
@@ -127,6 +130,20 @@ pub extern "C" fn fountain_write(
                 run.dropped_run as u64,
                 run.dropped_gc as u64,
             ];
+            0
+        }
+    }
+}
+
+// The seed after so many steps of the schedule.
+#[no_mangle]
+pub extern "C" fn fountain_seed_at(start: u32, steps: u32, answer: &mut [u64; 1]) -> u32
+    ensures { λ n. ⌜ returned n (now (answer .exit)) ≡ seedReturned (now (answer .entry)) (seedAt start steps) ⌝ }
+{
+    match jump::seed_at(start, steps) {
+        SeedAnswer::Refused(n) => n as u32,
+        SeedAnswer::Seed(seed) => {
+            *answer = [seed as u64];
             0
         }
     }

@@ -1,0 +1,3 @@
+pub mod SeedPositions
+pub mod NoSeedTwice
+pub mod Examples

@@ -1,0 +1,3 @@
+pub mod SeedPosition
+pub mod NoSeedTwice
+pub mod Examples
