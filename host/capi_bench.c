@@ -2,8 +2,8 @@
  * stand there or follow from its rules: reads card P and cuts it again, writes strands of file Q, checks and stores the reads of
  * seeds 2, 1, 3, and restores. On the way it has calls refused, and runs document 02's example of runs over the joints (Item 1) and the
  * header's examples of dropped strands (Item 12), of a file of seven bytes, dealt by W = 3 (Item 14), and of positions of the seed
- * schedule, with a job that two writers share (Item 7). Lent buffers and answers end in bytes that must survive, but in these two
- * jobs, and all of them must survive a refusal. Returns 1 if anything differs.
+ * schedule, with a job that two writers share (Item 7). Lent buffers and answers end in bytes that must survive, but in that job and
+ * the one with a dealt file, and all of them must survive a refusal. Returns 1 if anything differs.
  *
  *   capi_bench bench.card */
 #include <stdio.h>
@@ -498,12 +498,18 @@ static void split_job(const struct pool *p)
     struct pool tight = *p;
     uint8_t whole[10 * LINE], parts[10 * LINE], droplets[10][RECORD];
     uint32_t list[D];
-    uint64_t a[6], second[1];
+    uint64_t a[6], second[1], tried, next;
+    lend(whole, sizeof whole);
+    lend(parts, sizeof parts);
+    lend(a, sizeof a);
+    lend(second, sizeof second);
     tight.m = 3;
     tight.lo = 450;
     tight.hi = 550;
     number("write whole", fountain_write(CARD(&tight), Q, 4, start, 10, 62, whole, sizeof whole, list, D, a), 0);
     number("made whole", a[1], 10);
+    tried = a[2];
+    next = a[3];
     number("write the first part", fountain_write(CARD(&tight), Q, 4, start, 10, 20, parts, sizeof parts, list, D, a), 0);
     number("made in the first part", a[1], 2);
     number("seed at position 20", fountain_seed_at(start, 20, second), 0);
@@ -511,6 +517,8 @@ static void split_job(const struct pool *p)
     number("write the second part", fountain_write(CARD(&tight), Q, 4, (uint32_t)second[0], 8, 42, parts + 2 * LINE,
                                                    sizeof parts - 2 * LINE, list, D, a), 0);
     number("made in the second part", a[1], 8);
+    number("tried in both parts", 20 + a[2], tried);
+    number("where the second part would go on", a[3], next);
     bytes("the two parts", parts, whole, sizeof whole);
     for (int i = 0; i < 10; i++) {
         number("check a line", fountain_check_read(CARD(&tight), parts + i * LINE, N, droplets[i], RECORD), 0);

@@ -1,5 +1,5 @@
-/* Card reader, card cutter, dealing and its inverse, writer, jump along the seed schedule, read check, store (the hall's shelf) and
- * restorer of a DNA-storage pool, for C and C++ hosts.
+/* Card reader, card cutter, dealing and its inverse, writer, the seed at a position of the schedule, read check, store (the hall's
+ * shelf) and restorer of a DNA-storage pool, for C and C++ hosts.
  *
  * Link libcapi.a and libstrand.a: fountain_check_read is in libstrand.a, the other eight are in libcapi.a. The two have
  * no name in common, and together need nothing but memcpy and memset.
@@ -162,15 +162,16 @@ uint32_t fountain_write(uint32_t F, uint8_t L, uint8_t R, uint8_t m, uint16_t lo
 
 /* The seed at a position of the seed schedule: so many steps after a start.
  *
- *   start, steps      the start, not 0, and how many steps to take, none included
+ *   start             the start, not 0
+ *   steps             the position: how many steps to take, 0 or more
  *   answer            lent for one number: the seed
  *
- * The start comes back after 4,294,967,295 steps and not sooner, and so no strand of one call of fountain_write has a seed that another
- * strand of it has. To split a job over several writers, give each a stretch of the schedule, the first from position 0 on, each
- * other from where the one before it ends. A writer's start is then the seed at the first position of its stretch, and its budget
- * at most the stretch's length. If the lengths sum to at most 4,294,967,295, no two of the writers print one seed, also where one of
- * them is done before its stretch is at its end. All of them must count from one start: the stretches of two starts that
- * were chosen each by itself may overlap. For example, from start 0x12345678, stretches of 1,000,000:
+ * The schedule comes back to its start after 4,294,967,295 steps and not sooner, so no two strands of one call of fountain_write
+ * carry the same seed. To split a job over several writers, give each a stretch of the schedule, the first from position 0 on,
+ * each other from where the one before it ends. A writer's start is the seed at the position where its stretch begins, and its
+ * budget at most the length of its stretch. If the lengths sum to at most 4,294,967,295, no two of the writers print one seed, also
+ * where one of them is done before its stretch is at its end. All must count from one start: the stretches of two starts that were
+ * chosen each by itself may overlap. For example, from start 0x12345678, stretches of 1,000,000:
  *
  *      position     the writer's start
  *             0             0x12345678

@@ -308,6 +308,7 @@ fn regions() -> Vec<String> {
     for number in [0, 6] {
         regions.push(format!("answer {number}"));
         regions.extend(kinds.iter().map(|kind| format!("{number}: {kind}")));
+        regions.extend(BEFORE.iter().map(|kind| format!("{number}: {kind}")));
     }
     for what in ["start", "gives"] {
         regions.extend(seeds.iter().map(|kind| format!("{what} {kind}")));
@@ -316,10 +317,14 @@ fn regions() -> Vec<String> {
     regions
 }
 
-#[rustfmt::skip]
 const OTHER_STEPS: &[&str] = &[
-    "other steps to walk", "other steps that end near the start", "other steps", "low answer", "high answer",
+    "other steps to walk",
+    "other steps that end near the start",
+    "other steps",
 ];
+
+/// What the lent answer holds before the call, by its high half.
+const BEFORE: &[&str] = &["low answer", "high answer"];
 
 #[rustfmt::skip]
 const REGIONS: &[&str] = &[
@@ -337,7 +342,7 @@ fn seed_at() {
     });
 }
 
-/// Every seed of a single bit and all bits, by every single bit of steps, no steps and all bits.
+/// Every start of a single bit, of all bits and of none, which is refused, by every such number of steps.
 #[test]
 fn every_bit_of_start_by_every_bit_of_steps() {
     let random = &mut Random::of_case("every_bit_of_start_by_every_bit_of_steps", 0);

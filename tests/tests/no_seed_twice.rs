@@ -1,5 +1,7 @@
 //! Document 02, Item 7, "No seed twice": "Long jobs are split by schedule position,
-//! and two writers must never print one seed in two places."
+//! and two writers must never print one seed in two places." Of the second
+//! implementation alone; the differential tests compare the archive's writer and
+//! its seeds at positions with it, call by call.
 
 use second::*;
 use std::collections::HashSet;
@@ -11,7 +13,7 @@ const ROUND: u32 = 4_294_967_295;
 
 // ------------------------------------------------------------ the whole schedule
 
-/// The step without a jump on the bit that falls out, so that a round takes seconds.
+/// The step without a branch on the bit that falls out, so that a round takes seconds.
 fn quick_step(seed: u32) -> u32 {
     let all_ones_if_a_one_fell_out = 0u32.wrapping_sub(seed >> 31);
     (seed << 1) ^ (all_ones_if_a_one_fell_out & 0xC5)

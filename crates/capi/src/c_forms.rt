@@ -15,8 +15,8 @@ use droplet::card_cutter;
 use droplet::card_cutter::CutAnswer;
 use interleave::file;
 use interleave::file::ReorderAnswer;
-use split::jump;
-use split::jump::SeedAnswer;
+use split::seed_position;
+use split::seed_position::SeedAnswer;
 use strand::c_form::handed_card;
 use strand::writer;
 use strand::writer::Stop;
@@ -140,7 +140,7 @@ pub extern "C" fn fountain_write(
 pub extern "C" fn fountain_seed_at(start: u32, steps: u32, answer: &mut [u64; 1]) -> u32
     ensures { λ n. ⌜ returned n (now (answer .exit)) ≡ seedReturned (now (answer .entry)) (seedAt start steps) ⌝ }
 {
-    match jump::seed_at(start, steps) {
+    match seed_position::seed_at(start, steps) {
         SeedAnswer::Refused(n) => n as u32,
         SeedAnswer::Seed(seed) => {
             *answer = [seed as u64];

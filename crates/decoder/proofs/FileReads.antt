@@ -15,7 +15,8 @@ use Rattle.strand.specs.ReadCheck.{Reading, droplet, refused, readCheck}
 use Rattle.decoder.specs.Store.{Record, records}
 use Rattle.decoder.specs.Restorer.{droplets}
 use Rattle.decoder.specs.Demand3.{keptReading, legalReads, firstOfSeed, storedRecords, Call, readsOf, Chained, lastBuffer, lastCount, GivesAll}
-use Rattle.decoder.specs.Vault.{Among, AllAmong, storeAfter, dropletsOn, payloadFor, legalOf, RoomForAll, PrintedStrand, LegalPrinted, Job}
+use Rattle.strand.specs.Writer.{payloadFor}
+use Rattle.decoder.specs.Vault.{Among, AllAmong, storeAfter, dropletsOn, legalOf, RoomForAll, PrintedStrand, LegalPrinted, Job}
 use Rattle.decoder.proofs.AllOf.{all-map, all-front, all-mapped, all-among, among-all, among-mapped}
 use Rattle.decoder.proofs.RecordBytes.{IsRecord}
 use Rattle.decoder.proofs.LegalRead.{InReading, read-recordable}

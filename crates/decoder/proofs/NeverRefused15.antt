@@ -22,7 +22,8 @@ use Rattle.strand.specs.ReadCheck.{Reading, droplet, refused, wordSeed, sumsZer
 use Rattle.decoder.specs.declared.store.StoreAnswer.the-variants as reply
 use Rattle.decoder.specs.Store.{Record, recordBytes, recordsText, records, Found, found, absent, findSeed, Stored, accepted, repeat, refusal, storeAnswer, keptAnswer, appended, compared, storeReading, storeRead}
 use Rattle.decoder.specs.Demand3.{Holds, Call, readsOf, nextCount, Chained}
-use Rattle.decoder.specs.Vault.{payloadFor, Job}
+use Rattle.strand.specs.Writer.{payloadFor}
+use Rattle.decoder.specs.Vault.{Job}
 use Rattle.decoder.proofs.AllOf.{all-front}
 use Rattle.decoder.proofs.RecordBytes.{IsRecord}
 use Rattle.decoder.proofs.LegalRead.{InReading, read-recordable}

@@ -6,7 +6,8 @@ use Rattle.field.specs.Bytes.{AllBytes}
 use Rattle.droplet.specs.declared.card.Card.{Card}
 use Rattle.strand.specs.ReadCheck.{droplet, readCheck}
 use Rattle.strand.proofs.PrintedRuns.{seedOf, line-read}
-use Rattle.decoder.specs.Vault.{payloadFor, PrintedStrand}
+use Rattle.strand.specs.Writer.{payloadFor}
+use Rattle.decoder.specs.Vault.{PrintedStrand}
 
 module _ (c : Card) (ws file : List ℕ) (bytes : AllBytes file) (read : List ℕ) where
   pub printed-legal : PrintedStrand c ws file read → (s : ℕ) × (readCheck c ws read ≡ droplet s (payloadFor c ws file s))

@@ -12,10 +12,11 @@ use Rattle.field.specs.Bytes.{All, AllBytes}
 use Rattle.droplet.specs.declared.card.Card.{Card}
 use Rattle.droplet.specs.PoolCard.{segmentCount, cardWeights}
 use Rattle.droplet.specs.Questions.{accepted, cardReading}
-use Rattle.droplet.specs.Droplet.{segment, payload, segmentsOf}
+use Rattle.droplet.specs.Droplet.{segment}
 use Rattle.interleave.specs.declared.file.ReorderAnswer.{ReorderAnswer}
 use Rattle.interleave.specs.InterleaveCalls.{done, reorderAnswer, InterleavePromise, DeinterleavePromise}
 use Rattle.strand.specs.ReadCheck.{droplet, readCheck}
+use Rattle.strand.specs.Writer.{payloadFor}
 use Rattle.strand.specs.WriterRuns.{PrintedRun, printedLine}
 use Rattle.decoder.specs.declared.store.StoreAnswer.the-variants as reply
 use Rattle.decoder.specs.declared.restorer.Sheet.{Sheet}
@@ -46,10 +47,6 @@ module _ (c : Card) (weights : List ℕ) where
   -- "The droplets on a shelf are its records, each with the set that its seed picks"
   abbrev pub dropletsOn : LentStore → List Droplet
   dropletsOn store = droplets c weights (store .buffer) (store .count)
-
-  -- the payload that a file gives for a seed
-  abbrev pub payloadFor : List ℕ → ℕ → List ℕ
-  payloadFor file s = payload (c .l) file (segmentsOf weights (segmentCount c) s)
 
   -- the legal ones of the reads offered
   abbrev pub legalOf : List Call → List Record
@@ -140,7 +137,7 @@ module _ (c : Card) (weights : List ℕ) where
         → (calls : List Call) × Job file lent calls × (readsOf calls ≡ reads)
     -- every strand that the writer prints is a legal read: its seed, and the file's payload for it
     pub legal : (file read : List ℕ) → AllBytes file → PrintedStrand file read
-        → (s : ℕ) × (readCheck c weights read ≡ droplet s (payloadFor file s))
+        → (s : ℕ) × (readCheck c weights read ≡ droplet s (payloadFor c weights file s))
     -- every record in the store is a droplet of the file
     pub store : (file lent : List ℕ) (calls : List Call) → Job file lent calls → GivesAll (c .l) file (dropletsOn (storeAfter lent calls))
     -- no read is refused for a payload that differs from the store's

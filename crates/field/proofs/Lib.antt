@@ -6,8 +6,8 @@ pub mod SameBytes
 pub mod LentParts
 pub mod BigEndian
 pub mod Words
-pub mod Schedule
 pub mod Iterates
+pub mod Schedule
 pub mod Primes
 pub mod SeedProducts
 pub mod SeedPowers

@@ -1,4 +1,4 @@
--- Primes up to 257^2 by trial division, and what a prime says of the counts of steps that bring a number back. Assumes nothing.
+-- Primes below 257^2 by trial division, and what a prime says of the counts of steps that bring a number back. Assumes nothing.
 use mathlib.Core.Path.{_≡_, sym, ap, _∙_}
 use mathlib.Core.Bool.{Bool}
 use Prim.Native.Nat.{ℕ, zero, suc, _*_, _/_, _%_, _≤_, _<_}

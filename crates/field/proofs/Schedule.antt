@@ -1,5 +1,4 @@
--- The seed schedule: the step keeps XOR and never gives 0 for another seed; iterated steps and stretches of seeds add up.
--- Assumes nothing.
+-- The seed schedule: the step keeps XOR and never gives 0 for another seed, and stretches of seeds add up. Assumes nothing.
 use mathlib.Core.Path.{_≡_, refl, ap, _∙_}
 use mathlib.Core.List.{_∷_, _++_}
 use Prim.Native.Nat.{ℕ, zero, suc, _+_, _*_, _/_, _%_, _^_, _<_, _≤_}
@@ -10,7 +9,7 @@ use lib.Bits.{bitXor, xor-mod}
 use lib.Dec.{lit<}
 use lib.ListN.{length, getD}
 use Rattle.field.specs.Shift.{shiftUp}
-use Rattle.field.specs.Generator.{schedulePolynomial, seedAfter, iterate, seedsFrom}
+use Rattle.field.specs.Generator.{schedulePolynomial, IsSeed, seedAfter, iterate, seedsFrom}
 use Rattle.field.proofs.Xor.{shiftUp-xor, shiftUp-lt}
 
 pub step-xor : (a b : ℕ) → seedAfter (bitXor a b) ≡ bitXor (seedAfter a) (seedAfter b)
@@ -44,32 +43,23 @@ step-zero s h e =
       | no n ↦ let z : seedAfter s % 2 ≡ 1 = step-high s (omega arith) h in omega arith
     ]
 
-pub step-positive : (s : ℕ) → 0 < s → s < 2 ^ 32 → 0 < seedAfter s
-step-positive s pos h =
-    elim (decLt 0 (seedAfter s)) [ yes l ↦ l | no n ↦ absurd (let z : s ≡ 0 = step-zero s h (omega arith) in omega arith) ]
+pub step-seed : (s : ℕ) → IsSeed s → IsSeed (seedAfter s)
+step-seed s h = (
+  elim (decLt 0 (seedAfter s)) [ yes l ↦ l | no n ↦ absurd (let z : s ≡ 0 = step-zero s (h .1) (omega arith) in omega arith) ],
+  step-lt s,
+)
 
 -- ---- iterated steps
-
-module _ (f : ℕ → ℕ) where
-  pub iterate-add : (a b s : ℕ) → iterate (a + b) f s ≡ iterate b f (iterate a f s)
-  unfolding iterate
-  iterate-add zero b s = ap (λ n. iterate n f s) (zero-add b)
-  iterate-add (suc a) b s = ap (λ n. iterate n f s) (suc-add a b) ∙ iterate-add a b (f s)
-
-  pub iterate-out : (k s : ℕ) → iterate k f (f s) ≡ f (iterate k f s)
-  unfolding iterate
-  iterate-out zero s = refl
-  iterate-out (suc k) s = iterate-out k (f s)
 
 pub steps-lt : (k s : ℕ) → s < 2 ^ 32 → iterate k seedAfter s < 2 ^ 32
 unfolding iterate
 steps-lt zero s h = h
 steps-lt (suc k) s h = steps-lt k (seedAfter s) (step-lt s)
 
-pub steps-positive : (k s : ℕ) → 0 < s → s < 2 ^ 32 → 0 < iterate k seedAfter s
+pub steps-seed : (k s : ℕ) → IsSeed s → IsSeed (iterate k seedAfter s)
 unfolding iterate
-steps-positive zero s pos h = pos
-steps-positive (suc k) s pos h = steps-positive k (seedAfter s) (step-positive s pos h) (step-lt s)
+steps-seed zero s h = h
+steps-seed (suc k) s h = steps-seed k (seedAfter s) (step-seed s h)
 
 -- ---- stretches of seeds
 

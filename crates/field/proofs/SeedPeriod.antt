@@ -11,8 +11,8 @@ use Rattle.field.specs.Generator.{seedAfter, iterate}
 use Rattle.field.specs.SeedPeriod.{period, PeriodIs, PositionsDiffer}
 use Rattle.field.specs.SeedProducts.{times, product}
 use Rattle.field.proofs.Tests.{below}
-use Rattle.field.proofs.Schedule.{iterate-add, steps-lt, steps-positive}
-use Rattle.field.proofs.Iterates.{iterate-mul, fixed-mul}
+use Rattle.field.proofs.Iterates.{iterate-add, iterate-mul, fixed-mul}
+use Rattle.field.proofs.Schedule.{steps-seed}
 use Rattle.field.proofs.Primes.{prime, trial, divides}
 use Rattle.field.proofs.SeedProducts.{Linear, at-zero, by-one, product-one, linear-same, linear-after, linear-beside, linear-iterate, linear-times, steps-product}
 use Rattle.field.proofs.SeedPowers.{raised, jumps}
@@ -24,9 +24,9 @@ power k = raised 32 k 2 1
 abbrev difference : ℕ → ℕ
 difference k = bitXor 1 (power k)
 
--- the inverse of a seed that has one: its power of exponent 2^32 - 2
+-- the inverse of a seed that has one: a power
 abbrev inverse : ℕ → ℕ
-inverse a = raised 32 4294967294 a 1
+inverse a = raised 32 (period - 1) a 1
 
 -- a seed times its inverse
 abbrev inverted : ℕ → ℕ
@@ -94,5 +94,5 @@ period-is s h = record {
 pub positions-differ : PositionsDiffer
 positions-differ start i j h a b e =
     let n : i + (j - i) ≡ j = omega arith in
-    period-is (iterate i seedAfter start) (steps-positive i start (h .0) (h .1), steps-lt i start (h .1)) .not-sooner (j - i) (omega arith) (omega arith)
+    period-is (iterate i seedAfter start) (steps-seed i start h) .not-sooner (j - i) (omega arith) (omega arith)
     (sym (iterate-add seedAfter i (j - i) start) ∙ ap (λ m. iterate m seedAfter start) n ∙ sym e)

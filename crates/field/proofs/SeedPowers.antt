@@ -1,4 +1,4 @@
--- Powers of seeds by squaring: with those of x, a jump of k steps takes a square for each digit of k and a product for each that is 1.
+-- Powers of seeds by squaring: with those of x, a jump of k steps takes a square for each bit of k and a product for each that is 1.
 -- Assumes nothing.
 use mathlib.Core.Path.{_≡_, sym, ap, _∙_}
 use Prim.Native.Nat.{ℕ, zero, suc, _+_, _*_, _/_, _%_, _^_, _<_}
@@ -6,26 +6,27 @@ use native.Mathlib.Nat.{pow-suc, mul-one, zero-mul, mul-add, add-mul}
 use native.Mathlib.Omega.{arith}
 use Rattle.field.specs.Generator.{seedAfter, iterate}
 use Rattle.field.specs.SeedProducts.{product}
-use Rattle.field.proofs.Schedule.{step-low, iterate-add, steps-lt}
+use Rattle.field.proofs.Iterates.{iterate-add}
+use Rattle.field.proofs.Schedule.{step-low, steps-lt}
 use Rattle.field.proofs.SeedProducts.{steps-product}
 
--- s times b for the digit 1, and s for the digit 0
-abbrev pub digitRaised : ℕ → ℕ → ℕ → ℕ
-digitRaised zero b s = s
-digitRaised (suc d) b s = product s b
+-- s times b for the bit 1, and s for the bit 0
+abbrev pub bitRaised : ℕ → ℕ → ℕ → ℕ
+bitRaised zero b s = s
+bitRaised (suc d) b s = product s b
 
--- s times the power of b whose exponent is k, of n digits
+-- s times the power of b whose exponent is k, of n bits
 unfoldable pub raised : ℕ → ℕ → ℕ → ℕ → ℕ
 raised zero k b s = s
-raised (suc n) k b s = raised n (k / 2) (product b b) (digitRaised (k % 2) b s)
+raised (suc n) k b s = raised n (k / 2) (product b b) (bitRaised (k % 2) b s)
 
--- the seed after 1 by twice as many steps
+-- where b is the seed p steps after 1, its square is the seed twice as many after 1
 pub squared : (p b : ℕ) → b ≡ iterate p seedAfter 1 → product b b ≡ iterate (p + p) seedAfter 1
 squared p b e =
     ap (λ v. product v v) e ∙ sym (steps-product p (iterate p seedAfter 1) (steps-lt p 1 (omega arith)))
     ∙ sym (iterate-add seedAfter p p 1)
 
--- k times p, by the lowest digit of k and its half
+-- k times p, by the lowest bit of k and its half
 halves : (k p : ℕ) → k % 2 * p + k / 2 * (p + p) ≡ k * p
 halves k p =
     let e : k / 2 + k / 2 + k % 2 ≡ k = omega arith in
@@ -33,28 +34,28 @@ halves k p =
     omega (arith, n, add-mul (k / 2 + k / 2) (k % 2) p, add-mul (k / 2) (k / 2) p, mul-add (k / 2) p p)
 
 module _ (p b : ℕ) (e : b ≡ iterate p seedAfter 1) where
-  digit-jumps : (d s : ℕ) → d < 2 → s < 2 ^ 32 → digitRaised d b s ≡ iterate (d * p) seedAfter s
+  bit-jumps : (d s : ℕ) → d < 2 → s < 2 ^ 32 → bitRaised d b s ≡ iterate (d * p) seedAfter s
   unfolding iterate
-  digit-jumps zero s h w = ap (λ n. iterate n seedAfter s) (sym (zero-mul p))
-  digit-jumps (suc zero) s h w =
+  bit-jumps zero s h w = ap (λ n. iterate n seedAfter s) (sym (zero-mul p))
+  bit-jumps (suc zero) s h w =
       ap (product s) e ∙ sym (steps-product p s w) ∙ ap (λ n. iterate n seedAfter s) (let one : p ≡ 1 * p = omega arith in one)
-  digit-jumps (suc (suc d)) s h w = omega arith
+  bit-jumps (suc (suc d)) s h w = omega arith
 
-  -- the lowest digit of k taken, what is left is as many double steps
-  pub jump-turn : (k s : ℕ) → s < 2 ^ 32 → iterate (k / 2 * (p + p)) seedAfter (digitRaised (k % 2) b s) ≡ iterate (k * p) seedAfter s
+  -- the lowest bit of k taken, what is left is as many double steps
+  pub jump-turn : (k s : ℕ) → s < 2 ^ 32 → iterate (k / 2 * (p + p)) seedAfter (bitRaised (k % 2) b s) ≡ iterate (k * p) seedAfter s
   jump-turn k s w =
-      ap (iterate (k / 2 * (p + p)) seedAfter) (digit-jumps (k % 2) s (omega arith) w)
+      ap (iterate (k / 2 * (p + p)) seedAfter) (bit-jumps (k % 2) s (omega arith) w)
       ∙ sym (iterate-add seedAfter (k % 2 * p) (k / 2 * (p + p)) s) ∙ ap (λ n. iterate n seedAfter s) (halves k p)
 
-  pub digit-lt : (d s : ℕ) → d < 2 → s < 2 ^ 32 → digitRaised d b s < 2 ^ 32
-  digit-lt d s h w = rw (digit-jumps d s h w) (steps-lt (d * p) s w)
+  pub bit-lt : (d s : ℕ) → d < 2 → s < 2 ^ 32 → bitRaised d b s < 2 ^ 32
+  bit-lt d s h w = rw (bit-jumps d s h w) (steps-lt (d * p) s w)
 
 raised-is : (n k p b s : ℕ) → k < 2 ^ n → b ≡ iterate p seedAfter 1 → s < 2 ^ 32 → raised n k b s ≡ iterate (k * p) seedAfter s
 unfolding raised iterate
 raised-is zero k p b s h e w = let z : k ≡ 0 = omega arith in ap (λ n. iterate n seedAfter s) (sym (ap (λ m. m * p) z ∙ zero-mul p))
 raised-is (suc n) k p b s h e w =
-    raised-is n (k / 2) (p + p) (product b b) (digitRaised (k % 2) b s) (omega (arith, pow-suc 2 n)) (squared p b e)
-    (digit-lt p b e (k % 2) s (omega arith) w)
+    raised-is n (k / 2) (p + p) (product b b) (bitRaised (k % 2) b s) (omega (arith, pow-suc 2 n)) (squared p b e)
+    (bit-lt p b e (k % 2) s (omega arith) w)
     ∙ jump-turn p b e k s w
 
 -- x, that is 2, is the seed after 1

@@ -5,7 +5,7 @@ use native.Mathlib.Nat.{pow-suc}
 use native.Mathlib.Omega.{arith}
 use lib.Bits.{bitXor, xor-self, xor-shifted, xor-comm}
 use Rattle.field.specs.Generator.{seedAfter, iterate}
-use Rattle.field.specs.SeedProducts.{digitTimes, times, product}
+use Rattle.field.specs.SeedProducts.{bitTimes, times, product}
 use Rattle.field.proofs.Xor.{xors, xor-assoc}
 use Rattle.field.proofs.Schedule.{step-xor, step-low}
 
@@ -41,38 +41,38 @@ unfolding iterate
 linear-iterate zero = linear-same
 linear-iterate (suc k) = linear-after seedAfter (iterate k seedAfter) linear-step (linear-iterate k)
 
-linear-digit : (d : ℕ) → Linear (digitTimes d)
-linear-digit zero = record { sums = λ a b. refl; steps = λ a. sym (at-zero seedAfter linear-step) }
-linear-digit (suc d) = linear-same
+linear-bit : (d : ℕ) → Linear (bitTimes d)
+linear-bit zero = record { sums = λ a b. refl; steps = λ a. sym (at-zero seedAfter linear-step) }
+linear-bit (suc d) = linear-same
 
 pub linear-times : (n a : ℕ) → Linear (times n a)
 unfolding times
-linear-times zero a = linear-digit zero
+linear-times zero a = linear-bit zero
 linear-times (suc n) a =
-    linear-beside (digitTimes (a % 2)) (λ v. seedAfter (times n (a / 2) v)) (linear-digit (a % 2))
+    linear-beside (bitTimes (a % 2)) (λ v. seedAfter (times n (a / 2) v)) (linear-bit (a % 2))
     (linear-after (times n (a / 2)) seedAfter (linear-times n (a / 2)) linear-step)
 
--- the lowest digit taken into a sum, the others pick from the steps of what is stepped once
-pub times-turn : (n a v sum : ℕ) → bitXor (bitXor sum (digitTimes (a % 2) v)) (times n (a / 2) (seedAfter v)) ≡ bitXor sum (times (suc n) a v)
+-- the lowest bit taken into a sum, the others pick from the steps of what is stepped once
+pub times-turn : (n a v sum : ℕ) → bitXor (bitXor sum (bitTimes (a % 2) v)) (times n (a / 2) (seedAfter v)) ≡ bitXor sum (times (suc n) a v)
 unfolding times
-times-turn n a v sum = rw (linear-times n (a / 2) .steps v) (xor-assoc sum (digitTimes (a % 2) v) (seedAfter (times n (a / 2) v)))
+times-turn n a v sum = rw (linear-times n (a / 2) .steps v) (xor-assoc sum (bitTimes (a % 2) v) (seedAfter (times n (a / 2) v)))
 
 -- ---- each is a product
 
-linear-of-digit : (f : ℕ → ℕ) → Linear f → (d v : ℕ) → f (digitTimes d v) ≡ digitTimes d (f v)
-linear-of-digit f l zero v = at-zero f l
-linear-of-digit f l (suc d) v = refl
+linear-of-bit : (f : ℕ → ℕ) → Linear f → (d v : ℕ) → f (bitTimes d v) ≡ bitTimes d (f v)
+linear-of-bit f l zero v = at-zero f l
+linear-of-bit f l (suc d) v = refl
 
 linear-of-times : (f : ℕ → ℕ) → Linear f → (n a v : ℕ) → f (times n a v) ≡ times n a (f v)
 unfolding times
 linear-of-times f l zero a v = at-zero f l
 linear-of-times f l (suc n) a v =
     l .sums _ _
-    ∙ ap₂ bitXor (linear-of-digit f l (a % 2) v) (l .steps (times n (a / 2) v) ∙ ap seedAfter (linear-of-times f l n (a / 2) v))
+    ∙ ap₂ bitXor (linear-of-bit f l (a % 2) v) (l .steps (times n (a / 2) v) ∙ ap seedAfter (linear-of-times f l n (a / 2) v))
 
-digit-one : (d : ℕ) → d < 2 → digitTimes d 1 ≡ d
-digit-one zero h = refl
-digit-one (suc d) h = omega arith
+bit-one : (d : ℕ) → d < 2 → bitTimes d 1 ≡ d
+bit-one zero h = refl
+bit-one (suc d) h = omega arith
 
 -- a seed is the product of itself and 1
 times-one : (n a : ℕ) → a < 2 ^ n → a < 2 ^ 32 → times n a 1 ≡ a
@@ -80,7 +80,7 @@ unfolding times
 times-one zero a h w = omega arith
 times-one (suc n) a h w =
     let ih : times n (a / 2) 1 ≡ a / 2 = times-one n (a / 2) (omega (arith, pow-suc 2 n)) (omega arith) in
-    ap₂ bitXor (digit-one (a % 2) (omega arith)) (ap seedAfter ih ∙ step-low (a / 2) (omega arith))
+    ap₂ bitXor (bit-one (a % 2) (omega arith)) (ap seedAfter ih ∙ step-low (a / 2) (omega arith))
     ∙ xor-comm (a % 2) (a / 2 * 2) ∙ xor-shifted (a / 2) 1 (a % 2) (omega arith) ∙ omega arith
 
 pub product-one : (a : ℕ) → a < 2 ^ 32 → product a 1 ≡ a
@@ -89,6 +89,6 @@ product-one a h = times-one 32 a h h
 pub by-one : (f : ℕ → ℕ) → Linear f → (a : ℕ) → a < 2 ^ 32 → f a ≡ product a (f 1)
 by-one f l a h = ap f (sym (product-one a h)) ∙ linear-of-times f l 32 a 1
 
--- so the step, taken k times, is the product with the seed after 1 by k steps
+-- so k steps are the product with the seed k steps after 1
 pub steps-product : (k s : ℕ) → s < 2 ^ 32 → iterate k seedAfter s ≡ product s (iterate k seedAfter 1)
 steps-product k = by-one (iterate k seedAfter) (linear-iterate k)

@@ -3,7 +3,7 @@ use mathlib.Core.Path.{_≡_}
 use Prim.Native.Nat.{ℕ, _+_, _<_}
 use Rattle.field.specs.Generator.{IsSeed, seedAfter, iterate}
 
--- how many seeds there are
+-- the steps after which the schedule comes back: as many as there are seeds
 abbrev pub period : ℕ
 period = 4294967295
 

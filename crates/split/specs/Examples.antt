@@ -1,4 +1,5 @@
--- Positions of the schedule from one start, those of the README among them, as rows under one proposition. Assumes nothing.
+-- Positions of the schedule, as rows under one proposition: the four of the README, a whole period, the one of seed 1 when it has fallen
+-- out at the top, and start 0. Assumes nothing.
 use mathlib.Core.Path.{_≡_}
 use mathlib.Core.List.{List, [], _∷_}
 use Prim.Native.Nat.{ℕ}

@@ -3,8 +3,8 @@ use mathlib.Core.Bool.{cond}
 use Prim.Native.Nat.{ℕ}
 use lib.Dec.{eqb}
 use Rattle.field.specs.Generator.{seedAfter, iterate}
-use Rattle.split.specs.declared.jump.SeedAnswer.{SeedAnswer}
-use Rattle.split.specs.declared.jump.SeedAnswer.the-variants as answer
+use Rattle.split.specs.declared.seed_position.SeedAnswer.{SeedAnswer}
+use Rattle.split.specs.declared.seed_position.SeedAnswer.the-variants as answer
 
 -- what the call answers
 pub data SeedReply : Type 0 where

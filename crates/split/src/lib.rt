@@ -1,2 +1,2 @@
 // Above the third layer: splitting a job by schedule position, so that no seed is printed twice.
-pub mod jump;
+pub mod seed_position;

@@ -1,15 +1,16 @@
--- Lines: a strand's line has n letters and a newline, a run's text as many lines as it made, and a line stands in the buffer.
--- Assumes nothing.
+-- Lines: a strand's line has n letters and a newline, a run's text as many lines as it made, each with its seed's letters, and a line
+-- stands in the buffer. Assumes nothing.
 use mathlib.Core.Path.{_≡_, sym, ap, _∙_}
 use mathlib.Core.List.{List, [], _∷_, _++_, append-assoc}
-use Prim.Native.Nat.{ℕ, _+_, _*_, _≤_}
-use native.Mathlib.Nat.{suc-mul}
+use Prim.Native.Nat.{ℕ, zero, suc, _+_, _*_, _<_, _≤_}
+use native.Mathlib.Nat.{zero-mul, suc-mul, add-comm}
 use native.Mathlib.Omega.{arith}
-use lib.ListN.{length, take, drop, length-append}
-use lib.Seq.{take-at, drop-at, length-take-le}
+use lib.ListN.{length, getD, take, drop, length-append}
+use lib.Seq.{take-at, drop-at, drop-drop, length-take-le}
 use Rattle.droplet.specs.declared.card.Card.{Card}
 use Rattle.droplet.specs.PoolCard.{strandBases}
 use Rattle.strand.specs.declared.writer.Stop.{Stop}
+use Rattle.strand.specs.Letters.{wordLetters}
 use Rattle.strand.specs.Writer.{seedWord, strandLine, Progress, runEnd, writerRun}
 use Rattle.strand.specs.WriterRuns.{strandLines}
 use Rattle.strand.specs.Loops.{withText}
@@ -32,6 +33,29 @@ module _ (c : Card) (ws file : List ℕ) where
   text-length start wanted budget stop p e =
       let f = run-facts c ws file start wanted budget stop p e in
       ap length (f .prints) ∙ lines-length _ ∙ ap (λ n. n * (strandBases c + 1)) (sym (f .counts))
+
+  letters-long : (seed : ℕ) → length (wordLetters (seedWord c ws file seed)) ≡ strandBases c
+  letters-long seed = omega (arith, letters-length (seedWord c ws file seed), word-length c ws file seed)
+
+  -- the letters of line i
+  pub line-at : (seeds rest : List ℕ) (i : ℕ) → i < length seeds
+      → take (strandBases c) (drop (i * (strandBases c + 1)) (strandLines c ws file seeds ++ rest)) ≡ wordLetters (seedWord c ws file (getD seeds i 0))
+  unfolding strandLines
+  line-at [] rest i h = absurd (let z : ⊥ = omega arith in z)
+  line-at (seed ∷ seeds) rest zero h =
+      let letters = wordLetters (seedWord c ws file seed) in
+      let lines = strandLines c ws file seeds in
+      ap (λ k. take (strandBases c) (drop k ((strandLine (seedWord c ws file seed) ++ lines) ++ rest))) (zero-mul (strandBases c + 1))
+      ∙ ap (take (strandBases c)) (append-assoc (letters ++ (10 ∷ [])) lines rest ∙ append-assoc letters (10 ∷ []) (lines ++ rest))
+      ∙ take-at letters (10 ∷ (lines ++ rest)) (strandBases c) (letters-long seed)
+  line-at (seed ∷ seeds) rest (suc i) h =
+      let m = strandBases c + 1 in
+      let line = strandLine (seedWord c ws file seed) in
+      let lines = strandLines c ws file seeds in
+      ap (λ k. take (strandBases c) (drop k ((line ++ lines) ++ rest))) (suc-mul i m ∙ add-comm (i * m) m)
+      ∙ ap (take (strandBases c)) (sym (drop-drop (i * m) m ((line ++ lines) ++ rest))
+      ∙ ap (λ l. drop (i * m) (drop m l)) (append-assoc line lines rest) ∙ ap (drop (i * m)) (drop-at line (lines ++ rest) m (line-length seed)))
+      ∙ line-at seeds rest i (omega arith)
 
 -- a text in a buffer
 module _ (at : ℕ) (text out : List ℕ) (room : at ≤ length out) where

@@ -2,30 +2,25 @@
 -- gives this seed back with the file's payload. Assumes nothing.
 use mathlib.Core.Path.{_≡_, sym, ap, _∙_, subst}
 use mathlib.Core.Bool.{true, cond}
-use mathlib.Core.List.{List, [], _∷_, _++_, append-assoc}
+use mathlib.Core.List.{List, [], _∷_}
 use mathlib.Core.Logic.{inl, inr}
-use Prim.Native.Nat.{ℕ, zero, suc, _+_, _*_, _<_}
-use native.Mathlib.Nat.{zero-mul, suc-mul, add-comm, zero-lt-suc, le-of-suc-le-suc}
+use Prim.Native.Nat.{ℕ, zero, suc, _<_}
+use native.Mathlib.Nat.{zero-lt-suc, le-of-suc-le-suc}
 use native.Mathlib.Omega.{arith}
-use lib.ListN.{length, getD, take, drop}
-use lib.Seq.{take-at, drop-at, drop-drop}
+use lib.ListN.{length, getD}
 use Rattle.field.specs.Bytes.{AllBytes}
 use Rattle.field.specs.Generator.{IsSeed, seedAfter, iterate, seedsFrom}
-use Rattle.field.proofs.Schedule.{steps-lt, steps-positive, seeds-length, seeds-at}
+use Rattle.field.proofs.Schedule.{steps-seed, seeds-length, seeds-at}
 use Rattle.field.proofs.Tests.{either}
 use Rattle.droplet.specs.declared.card.Card.{Card}
-use Rattle.droplet.specs.PoolCard.{segmentCount, strandBases}
 use Rattle.droplet.specs.Questions.{cardRefusal}
-use Rattle.droplet.specs.Droplet.{segmentsOf, payload}
 use Rattle.strand.specs.declared.limits.Verdict.the-variants.{Passes}
 use Rattle.strand.specs.Letters.{wordLetters}
 use Rattle.strand.specs.Screen.{screenPasses}
 use Rattle.strand.specs.ReadCheck.{droplet, readCheck}
-use Rattle.strand.specs.Writer.{seedWord, strandLine}
-use Rattle.strand.specs.WriterRuns.{seedsWith, passingFirst, strandLines, AnsweredRun, PrintedRun, printedLine}
-use Rattle.strand.proofs.Spelling.{letters-length}
-use Rattle.strand.proofs.SeedWords.{word-length}
-use Rattle.strand.proofs.Lines.{line-length}
+use Rattle.strand.specs.Writer.{payloadFor, seedWord}
+use Rattle.strand.specs.WriterRuns.{seedsWith, passingFirst, AnsweredRun, PrintedRun, printedLine}
+use Rattle.strand.proofs.Lines.{line-at}
 use Rattle.strand.proofs.WriterAnswers.{accepted-card, roomy, own, answers-run}
 use Rattle.strand.proofs.RoundTrips.{strands-read-back}
 
@@ -76,31 +71,6 @@ module _ (c : Card) (ws file : List ℕ) where
         | inr e ↦ rw e (omega (arith, place-order seeds (suc i) (suc j) l (rw e at h)))
       ]
 
-  -- ---- lines
-
-  letters-long : (seed : ℕ) → length (wordLetters (seedWord c ws file seed)) ≡ strandBases c
-  letters-long seed = omega (arith, letters-length (seedWord c ws file seed), word-length c ws file seed)
-
-  -- the letters of line i
-  line-at : (seeds rest : List ℕ) (i : ℕ) → i < length seeds
-      → take (strandBases c) (drop (i * (strandBases c + 1)) (strandLines c ws file seeds ++ rest)) ≡ wordLetters (seedWord c ws file (getD seeds i 0))
-  unfolding strandLines
-  line-at [] rest i h = absurd (let z : ⊥ = omega arith in z)
-  line-at (seed ∷ seeds) rest zero h =
-      let letters = wordLetters (seedWord c ws file seed) in
-      let lines = strandLines c ws file seeds in
-      ap (λ k. take (strandBases c) (drop k ((strandLine (seedWord c ws file seed) ++ lines) ++ rest))) (zero-mul (strandBases c + 1))
-      ∙ ap (take (strandBases c)) (append-assoc (letters ++ (10 ∷ [])) lines rest ∙ append-assoc letters (10 ∷ []) (lines ++ rest))
-      ∙ take-at letters (10 ∷ (lines ++ rest)) (strandBases c) (letters-long seed)
-  line-at (seed ∷ seeds) rest (suc i) h =
-      let m = strandBases c + 1 in
-      let line = strandLine (seedWord c ws file seed) in
-      let lines = strandLines c ws file seeds in
-      ap (λ k. take (strandBases c) (drop k ((line ++ lines) ++ rest))) (suc-mul i m ∙ add-comm (i * m) m)
-      ∙ ap (take (strandBases c)) (sym (drop-drop (i * m) m ((line ++ lines) ++ rest))
-      ∙ ap (λ l. drop (i * m) (drop m l)) (append-assoc line lines rest) ∙ ap (drop (i * m)) (drop-at line (lines ++ rest) m (line-length c ws file seed)))
-      ∙ line-at seeds rest i (omega arith)
-
   -- ---- a run
 
   module _ (p : PrintedRun c ws file) where
@@ -143,14 +113,13 @@ module _ (c : Card) (ws file : List ℕ) where
 
       line-spells : printedLine p i ≡ wordLetters (seedWord c ws file (seedOf i))
       line-spells =
-          rw (ran .prints, ran .facts .prints) (line-at (passingFirst c ws file (p .start) (p .run .tried)) _ i (printed h))
+          rw (ran .prints, ran .facts .prints) (line-at c ws file (passingFirst c ws file (p .start) (p .run .tried)) _ i (printed h))
           ∙ ap (λ s. wordLetters (seedWord c ws file s)) (passing .same ∙ at-position)
 
       -- the read check gives back that seed, and the file's payload for it
       pub line-read : AllBytes file
-          → readCheck c ws (printedLine p i) ≡ droplet (seedOf i) (payload (c .l) file (segmentsOf ws (segmentCount c) (seedOf i)))
+          → readCheck c ws (printedLine p i) ≡ droplet (seedOf i) (payloadFor c ws file (seedOf i))
       line-read bytes =
-          let seed = start-seed in
           let passes = subst (λ s. screenPasses c (seedWord c ws file s) ≡ true) at-position (passing .passes) in
           ap (readCheck c ws) line-spells
-          ∙ strands-read-back c ws file (seedOf i) fine bytes (steps-positive (position i) (p .start) (seed .0) (seed .1), steps-lt (position i) (p .start) (seed .1)) passes
+          ∙ strands-read-back c ws file (seedOf i) fine bytes (steps-seed (position i) (p .start) start-seed) passes

@@ -4,7 +4,7 @@ use mathlib.Core.Logic.{inl, inr}
 use Prim.Native.Nat.{zero, suc}
 use Rattle.field.specs.Generator.{seedAfter, seedsFrom}
 use Rattle.field.proofs.Tests.{either}
-use Rattle.field.proofs.Schedule.{step-lt, step-positive}
+use Rattle.field.proofs.Schedule.{step-seed}
 use Rattle.droplet.specs.PoolCard.{segmentCount}
 use Rattle.droplet.specs.Droplet.{segmentsOf}
 use Rattle.droplet.proofs.Payload.{payload-length, payload-bytes}
@@ -32,7 +32,7 @@ pub runs-read-back : RunsReadBack
 unfolding seedsWith seedsFrom screenPasses
 runs-read-back c ws file start zero legal bytes s = tt
 runs-read-back c ws file start (suc t) legal bytes s =
-    let rest = runs-read-back c ws file (seedAfter start) t legal bytes (step-positive start (s .0) (s .1), step-lt start) in
+    let rest = runs-read-back c ws file (seedAfter start) t legal bytes (step-seed start s) in
     elim (either (screenPasses c (seedWord c ws file start))) [
       | inl p ↦ rw p (strands-read-back c ws file start legal bytes s p, rest)
       | inr p ↦ rw p rest

@@ -6,19 +6,17 @@ use Prim.Native.Nat.{ℕ}
 use Rattle.field.specs.Bytes.{All, AllBytes}
 use Rattle.field.specs.Generator.{IsSeed}
 use Rattle.droplet.specs.declared.card.Card.{Card}
-use Rattle.droplet.specs.PoolCard.{segmentCount}
 use Rattle.droplet.specs.Questions.{cardRefusal}
-use Rattle.droplet.specs.Droplet.{segmentsOf, payload}
 use Rattle.strand.specs.Letters.{wordLetters}
 use Rattle.strand.specs.Screen.{screenPasses}
 use Rattle.strand.specs.ReadCheck.{droplet, readCheck}
-use Rattle.strand.specs.Writer.{seedWord}
+use Rattle.strand.specs.Writer.{payloadFor, seedWord}
 use Rattle.strand.specs.WriterRuns.{passingFirst}
 
 -- the strand of a seed is read back as its droplet
 abbrev pub ReadBack : Card → List ℕ → List ℕ → ℕ → Type 0
 ReadBack c weights file seed =
-    readCheck c weights (wordLetters (seedWord c weights file seed)) ≡ droplet seed (payload (c .l) file (segmentsOf weights (segmentCount c) seed))
+    readCheck c weights (wordLetters (seedWord c weights file seed)) ≡ droplet seed (payloadFor c weights file seed)
 
 -- so is every strand that passes the screen
 abbrev pub StrandsReadBack : Type 0

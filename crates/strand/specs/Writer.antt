@@ -21,9 +21,12 @@ use Rattle.strand.specs.Letters.{wordLetters}
 use Rattle.strand.specs.Screen.{wordVerdict}
 use Rattle.strand.specs.ReadCheck.{strandWord}
 
--- the word of the strand that a seed gives for a file
+-- the payload that a file gives for a seed, and the word of its strand
+abbrev pub payloadFor : Card → List ℕ → List ℕ → ℕ → List ℕ
+payloadFor c weights file seed = payload (c .l) file (segmentsOf weights (segmentCount c) seed)
+
 unfoldable pub seedWord : Card → List ℕ → List ℕ → ℕ → List ℕ
-seedWord c weights file seed = strandWord c seed (payload (c .l) file (segmentsOf weights (segmentCount c) seed))
+seedWord c weights file seed = strandWord c seed (payloadFor c weights file seed)
 
 -- "n letters and a newline byte"
 abbrev pub strandLine : List ℕ → List ℕ

@@ -84,7 +84,7 @@ AnswersRun = (c : Card) (weights file : List ℕ) (start wanted budget : ℕ) (o
     → WriterPromise c weights file start wanted budget out list (answer.Written run) out′ list′
     → AnsweredRun c weights file start wanted budget out list run out′
 
--- a call of the writer for a file that was not refused: what it was handed, its answer, and what it left
+-- a call of the writer for a file, not refused: what it was handed, its answer, and what it left
 pub record PrintedRun (c : Card) (weights file : List ℕ) : Type 0 where
   pub start : ℕ
   pub wanted : ℕ
@@ -95,7 +95,7 @@ pub record PrintedRun (c : Card) (weights file : List ℕ) : Type 0 where
   pub out′ : List ℕ
   pub list′ : List ℕ
   pub wrote : WriterPromise c weights file start wanted budget out list (answer.Written run) out′ list′
-  -- "a 32-bit number, as the start is"
+  -- the start is of 32 bits; that the budget is too is a premise where it matters
   pub fits : start < 2 ^ 32
 
 -- the n letters of a line that it left in its buffer

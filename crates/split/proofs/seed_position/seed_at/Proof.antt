@@ -4,8 +4,8 @@ use native.Mathlib.Omega.{arith}
 use borrow.Author.Needs.{needs}
 use Rattle.split.specs.SeedPosition.{seed}
 use Rattle.split.proofs.SeedPositions.{none-at, some-at}
-use Rattle.split.proofs.jump.seed_at.Statement.{statement}
-use Rattle.split.proofs.jump.seed_at.Tie as tie
+use Rattle.split.proofs.seed_position.seed_at.Statement.{statement}
+use Rattle.split.proofs.seed_position.seed_at.Tie as tie
 
 returns : tie.Need-returns
 returns c = sym (none-at (c .before .args .start) (c .before .args .steps) (omega arith))
