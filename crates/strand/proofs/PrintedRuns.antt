@@ -33,11 +33,13 @@ module _ (c : Card) (ws file : List ℕ) where
   place (seed ∷ seeds) zero = cond (screenPasses c (seedWord c ws file seed)) 0 (suc (place seeds zero))
   place (seed ∷ seeds) (suc i) = suc (place seeds (cond (screenPasses c (seedWord c ws file seed)) i (suc i)))
 
+  -- the passing seed that has i others before it stands at place k
   record PassingAt (seeds : List ℕ) (i k : ℕ) : Type 0 where
     pub within : k < length seeds
     pub same : getD (seedsWith Passes c ws file seeds) i 0 ≡ getD seeds k 0
     pub passes : screenPasses c (seedWord c ws file (getD seeds k 0)) ≡ true
 
+  -- so it does one place further where one more seed stands in front, whether that one passes or not
   further : (seed : ℕ) (seeds : List ℕ) (i j k : ℕ) → getD (seedsWith Passes c ws file (seed ∷ seeds)) i 0 ≡ getD (seedsWith Passes c ws file seeds) j 0
       → PassingAt seeds j k → PassingAt (seed ∷ seeds) i (suc k)
   further seed seeds i j k e p = record { within = omega (arith, p .within); same = e ∙ p .same; passes = p .passes }
@@ -56,6 +58,7 @@ module _ (c : Card) (ws file : List ℕ) where
         | inr e ↦ rw e (further seed seeds (suc i) (suc i) (place seeds (suc i)) (rw e) (passing-at seeds (suc i) (rw e at h)))
       ]
 
+  -- a later passing seed stands at a later place
   place-order : (seeds : List ℕ) (i j : ℕ) → i < j → j < length (seedsWith Passes c ws file seeds) → place seeds i < place seeds j
   unfolding seedsWith screenPasses place
   place-order [] i j l h = absurd (let z : ⊥ = omega arith in z)
