@@ -1,9 +1,9 @@
 /* Runs document 01's bench example through all functions and compares every number and every byte with the values that
  * stand there or follow from its rules: reads card P and cuts it again, writes strands of file Q, checks and stores the reads of
- * seeds 2, 1, 3, and restores. On the way it has calls refused, and runs document 02's example of runs over the joints (Item 1) and the
- * header's examples of dropped strands (Item 12), of a file of seven bytes, dealt by W = 3 (Item 14), and of positions of the seed
- * schedule, with a job that two writers share (Item 7). Lent buffers and answers end in bytes that must survive, but in that job and
- * the one with a dealt file, and all of them must survive a refusal. Returns 1 if anything differs.
+ * seeds 2, 1, 3, and restores. On the way it has calls refused, reads mended (document 02, Item 3), and runs document 02's example of
+ * runs over the joints (Item 1) and the header's examples of dropped strands (Item 12), of a file of seven bytes, dealt by W = 3 (Item
+ * 14), and of positions of the seed schedule, with a job that two writers share (Item 7). Lent buffers and answers end in bytes that
+ * must survive, but in that job and the one with a dealt file, and all of them must survive a refusal. Returns 1 if anything differs.
  *
  *   capi_bench bench.card */
 #include <stdio.h>
@@ -435,6 +435,48 @@ static void joints(const struct pool *p)
     kept("the buffer past the strand at m = 3", line + LINE, SPARE);
 }
 
+/* Strands of seed 1 misread (document 02, Item 3): with R = 2 one wrong byte is mended, in the seed, the payload or the check bytes,
+ * however many of its letters are wrong, and two are refused; with R = 4 none, one and two are mended, and these three are refused. The
+ * screen is asked of the mended strand, and a mended seed 0 is refused as 12. A mended read is stored as any other. */
+static void mended(const struct pool *p)
+{
+    static const char *const two[4] = {"TTTTAAAAAAAAAAACTGCAATCGTCAT", "AAAAAAAAAAAAAAACTGCTATCGTCAT", "AAAAAAAAAAAAAAACTGCAATCGTCAA",
+                                       "TAAAAAAAAAAAAAACTGCAATCGTCAA"};
+    static const char *const four[4] = {"AAAAAAAAAAAAAAACTGCAGCCGAAAGAGGCCCGA", "AAAAAAAAAAAAAAACTGCAGCCGAAAGAGGCCCGT",
+                                        "TAAAAAAAAAAAAAACTGCAGCCGAAAGAGGCCCGT", "TAAAAAAAAAAAAAACAGCAGCCGAAAGAGGCCCGT"};
+    static const uint64_t accepted[2] = {0, 1}, repeat[2] = {1, 1};
+    struct pool r_4 = *p, run_14 = *p;
+    uint8_t out[RECORD + SPARE], store[RECORD + SPARE];
+    uint64_t a[3];
+    r_4.R = 4;
+    r_4.lo = 0;
+    run_14.m = 14;
+    for (int i = 0; i < 4; i++) {
+        lend(out, sizeof out);
+        number("a read of the strand, R = 2", fountain_check_read(CARD(p), (const uint8_t *)two[i], N, out, sizeof out), i < 3 ? 0 : 11);
+        if (i < 3)
+            bytes("its droplet", out, DROPLETS[1], RECORD);
+        kept("the buffer past it", out + (i < 3 ? RECORD : 0), i < 3 ? SPARE : sizeof out);
+        lend(out, sizeof out);
+        number("a read of the strand, R = 4", fountain_check_read(CARD(&r_4), (const uint8_t *)four[i], N + 8, out, sizeof out), i < 3 ? 0 : 11);
+        if (i < 3)
+            bytes("its droplet", out, DROPLETS[1], RECORD);
+        kept("the buffer past it", out + (i < 3 ? RECORD : 0), i < 3 ? SPARE : sizeof out);
+    }
+    lend(out, sizeof out);
+    number("mended to a run of 15", fountain_check_read(CARD(&run_14), (const uint8_t *)two[0], N, out, sizeof out), 13);
+    number("mended to seed 0", fountain_check_read(CARD(p), (const uint8_t *)"AAAAAAAAAAAAAAAAAAAAAAAAAAAC", N, out, sizeof out), 12);
+    kept("the buffer of a mended strand that is refused", out, sizeof out);
+    lend(store, sizeof store);
+    lend(a, sizeof a);
+    number("store a mended read", fountain_store(CARD(p), store, sizeof store, 0, (const uint8_t *)two[0], N, a), 0);
+    answers("a mended read, accepted", a, accepted, 2);
+    bytes("its record", store, DROPLETS[1], RECORD);
+    kept("the shelf past it", store + RECORD, SPARE);
+    number("store the clean one", fountain_store(CARD(p), store, sizeof store, 1, (const uint8_t *)READS[1], N, a), 0);
+    answers("the clean one, a repeat", a, repeat, 2);
+}
+
 /* One job under the header's three limits, and one that is spent on a strand with both faults (document 02, Item 12). */
 static void drops(const struct pool *p)
 {
@@ -633,6 +675,7 @@ int main(int argc, char **argv)
     write_ends(&p);
     check_reads(&p);
     joints(&p);
+    mended(&p);
     drops(&p);
     seeds_at();
     split_job(&p);

@@ -184,28 +184,34 @@ uint32_t fountain_write(uint32_t F, uint8_t L, uint8_t R, uint8_t m, uint16_t lo
  *    6  start is 0 */
 uint32_t fountain_seed_at(uint32_t start, uint32_t steps, uint64_t answer[1]);
 
-/* Checks one read under a pool card.
+/* Checks one read under a pool card. A read of n letters with wrong bytes, four letters being a byte, is mended where there is a word
+ * with all check sums 0 that differs from it in at most R/2 bytes: one with R 2, two with R 4. There is at most one such word. The wrong
+ * bytes may be any, those of the seed and the check bytes too.
  *
  *   F .. weights_len  as above
  *   read, read_len    the letters of the read, n of them
  *   out, out_len      lent for the droplet, at least 4 + L bytes
  *
- * Returns 0 if the read is accepted: the first 4 + L bytes of out then hold the seed (four bytes, most significant first) and
- * the L payload bytes, and its bytes past these are as they were. Otherwise:
+ * For example, under the bench card the strand of seed 1 is AAAAAAAAAAAAAAACTGCAATCGTCAT. TTTTAAAAAAAAAAACTGCAATCGTCAT, in which its
+ * first byte is wrong, is accepted with its seed and payload; TAAAAAAAAAAAAAACTGCAATCGTCAA, in which its first and last bytes are, is
+ * refused under 11. A read that is damaged further may by chance be near to another strand, and is then mended to that one.
+ *
+ * Returns 0 if the read is accepted, mended or not: the first 4 + L bytes of out then hold the seed (four bytes, most significant
+ * first) and the L payload bytes, and its bytes past these are as they were. Otherwise:
  *
  *    2, 3, 4, 27  as above
  *    9  the read does not have the strand length
  *   10  a letter that is none of A, C, G, T (N and small letters are none)
- *   11  the check sums are not all 0
- *   12  the seed is 0
- *   13  the screen is not passed: a run longer than m, counted through the sites, or C and G outside lo and hi
+ *   11  no word with all check sums 0 differs from the read in at most R/2 bytes
+ *   12  the seed of that word is 0
+ *   13  its strand does not pass the screen: a run longer than m, counted through the sites, or C and G outside lo and hi
  *   16  the read is accepted, but out is shorter than 4 + L bytes */
 uint32_t fountain_check_read(uint32_t F, uint8_t L, uint8_t R, uint8_t m, uint16_t lo, uint16_t hi, uint8_t dealt, uint32_t width,
                              const uint8_t *weights, size_t weights_len,
                              const uint8_t *read, size_t read_len,
                              uint8_t *out, size_t out_len);
 
-/* Offers one read to a store. An empty store is a buffer of any length and bytes with count 0.
+/* Offers one read to a store. A read that was mended is taken in as any other. An empty store is a buffer of any length and bytes with count 0.
  *
  *   F .. weights_len  as above
  *   store, store_len  the store: records from its start

@@ -1,6 +1,7 @@
-//! Documents 01 and 02 (Items 1, 12 and 14) in Rust, tuned for speed, behind the same interface as the proved archives: the same buffers,
-//! the same checks in each call, no memory of its own between calls and no allocation. It is tuned where plain code would be unfair:
-//! letters, C and G, doubling and parity by tables that are computed when it is compiled, and a bitmap for large sets.
+//! Documents 01 and 02 (Items 1, 3, 12 and 14) in Rust, tuned for speed, behind the same interface as the proved archives: the same
+//! buffers, the same checks in each call, no memory of its own between calls and no allocation. It is tuned where plain code would be
+//! unfair: letters, C and G, doubling, parity, logarithms and the roots of quadratics by tables that are computed when it is compiled,
+//! and a bitmap for large sets.
 
 #[derive(Clone, Copy)]
 pub struct Card {
@@ -102,12 +103,82 @@ const fn tables_of_four() -> [[u32; 256]; 4] {
     t
 }
 
+// The powers of the root, twice over, so that a sum of two logarithms needs no remainder; behind them zeros, for products with 0.
+const fn table_of_powers() -> [u8; 1021] {
+    let mut t = [0; 1021];
+    let mut x = 1;
+    let mut i = 0;
+    while i < 510 {
+        t[i] = x;
+        x = double(x);
+        i += 1;
+    }
+    t
+}
+
+// The logarithms. That of 0 is so large that every sum with it is among the zeros of the powers.
+const fn table_of_logs() -> [u16; 256] {
+    let mut t = [510; 256];
+    let mut x = 1;
+    let mut i = 0;
+    while i < 255 {
+        t[x as usize] = i;
+        x = double(x);
+        i += 1;
+    }
+    t
+}
+
+// For the logarithm of c those of y and y + 1, the two roots of y·y + y = c; 255 where there are none. c = 0 has no logarithm, so 0
+// and 1, its roots, are in no place.
+const fn table_of_roots() -> [[u8; 2]; 255] {
+    let logs = table_of_logs();
+    let powers = table_of_powers();
+    let mut t = [[255; 2]; 255];
+    let mut y = 2;
+    while y < 256 {
+        let c = powers[2 * logs[y] as usize] ^ y as u8;
+        t[logs[c as usize] as usize] = [logs[y] as u8, logs[y ^ 1] as u8];
+        y += 1;
+    }
+    t
+}
+
+// What each byte of a remainder of four adds to the four check sums, which are those of the word.
+const fn tables_of_sums() -> [[u32; 256]; 4] {
+    let mut t = [[0; 256]; 4];
+    let mut k = 0;
+    while k < 4 {
+        let mut b = 0;
+        while b < 256 {
+            let mut sums = [b as u8; 4];
+            let mut j = 1;
+            while j < 4 {
+                let mut left = j * (3 - k);
+                while left > 0 {
+                    sums[j] = double(sums[j]);
+                    left -= 1;
+                }
+                j += 1;
+            }
+            t[k][b] = u32::from_be_bytes(sums);
+            b += 1;
+        }
+        k += 1;
+    }
+    t
+}
+
 static LETTERS: [u8; 256] = table_of_letters();
 static WORDS: [[u8; 4]; 256] = table_of_words();
 static GC: [u8; 256] = table_of_gc();
 static DOUBLES: [u8; 256] = table_of_doubles();
 static TWO: [u16; 256] = table_of_two();
 static FOUR: [[u32; 256]; 4] = tables_of_four();
+static POWERS: [u8; 1021] = table_of_powers();
+static LOGS: [u16; 256] = table_of_logs();
+static ROOTS: [[u8; 2]; 255] = table_of_roots();
+static SUMS: [[u32; 256]; 4] = tables_of_sums();
 
 struct Plan {
     k: u32,
@@ -152,17 +223,90 @@ fn word_bytes(card: &Card) -> usize {
     4 + card.l as usize + card.r as usize
 }
 
-fn syndromes_zero(r: u8, word: &[u8]) -> bool {
+/// Question 11, with the word mended where at most R/2 of its bytes are wrong. What a clean word does not need is out of its way.
+fn mend(r: u8, word: &mut [u8]) -> bool {
     if r == 2 {
         let (mut a, mut b) = (0u8, 0u8);
-        for &x in word {
+        for &x in word.iter() {
             a ^= x;
             b = DOUBLES[b as usize] ^ x;
         }
-        return a | b == 0;
+        return a | b == 0 || mend_by_two(a, b, word);
     }
     let (message, parity) = word.split_at(word.len() - 4);
-    parity_four(message).to_be_bytes() == parity
+    let rest =
+        parity_four(message) ^ u32::from_be_bytes([parity[0], parity[1], parity[2], parity[3]]);
+    rest == 0 || mend_by_four(rest, word)
+}
+
+#[inline(always)]
+fn log(x: u8) -> usize {
+    LOGS[x as usize] as usize
+}
+
+#[inline(always)]
+fn product(x: u8, y: u8) -> u8 {
+    POWERS[log(x) + log(y)]
+}
+
+/// The logarithm of a quotient, from those of its two bytes, of which none is 0.
+#[inline(always)]
+fn log_quotient(x: usize, y: usize) -> usize {
+    if x >= y {
+        x - y
+    } else {
+        x + 255 - y
+    }
+}
+
+/// XORs into the byte at a place, counted from the last byte, if the word has it.
+#[inline(always)]
+fn change(place: usize, by: u8, word: &mut [u8]) -> bool {
+    let there = place < word.len();
+    if there {
+        word[word.len() - 1 - place] ^= by;
+    }
+    there
+}
+
+/// One wrong byte leaves its change as the first check sum, and the quotient of the two is the root to the power of its place.
+#[cold]
+#[inline(never)]
+fn mend_by_two(a: u8, b: u8, word: &mut [u8]) -> bool {
+    a != 0 && b != 0 && change(log_quotient(log(b), log(a)), a, word)
+}
+
+/// Two wrong bytes, or one if the locator has no square term: then all quotients of a check sum and the one before it must agree.
+#[cold]
+#[inline(never)]
+fn mend_by_four(rest: u32, word: &mut [u8]) -> bool {
+    let [a, b, c, d] = (SUMS[0][(rest >> 24) as usize]
+        ^ SUMS[1][(rest >> 16 & 255) as usize]
+        ^ SUMS[2][(rest >> 8 & 255) as usize]
+        ^ SUMS[3][(rest & 255) as usize])
+        .to_be_bytes();
+    let square = product(a, c) ^ product(b, b);
+    let linear = product(a, d) ^ product(b, c);
+    if square == 0 {
+        return a != 0 && b != 0 && linear == 0 && change(log_quotient(log(b), log(a)), a, word);
+    }
+    let constant = product(b, d) ^ product(c, c);
+    // Without a linear term both places are the same one, without a constant one of them is none.
+    if linear == 0 || constant == 0 {
+        return false;
+    }
+    // With x = y·linear/square the locator is y·y + y = constant·square/linear², whose roots are in the table.
+    let sum = log_quotient(log(linear), log(square));
+    let [y, z] = ROOTS[(log(constant) + log(square) + 510 - 2 * log(linear)) % 255];
+    if y == 255 {
+        return false;
+    }
+    let (p, q) = ((sum + y as usize) % 255, (sum + z as usize) % 255);
+    if p >= word.len() || q >= word.len() {
+        return false;
+    }
+    let by = POWERS[log_quotient(log(POWERS[p + log(a)] ^ b), sum)];
+    change(p, a ^ by, word) && change(q, by, word)
 }
 
 /// The four check bytes, four bytes of the message a step.
@@ -215,7 +359,7 @@ fn screen(card: &Card, word: &[u8]) -> Verdict {
     }
 }
 
-/// Questions 9 to 13: the seed, with the word in the buffer.
+/// Questions 9 to 13: the seed, with the mended word in the buffer.
 fn check_letters(card: &Card, read: &[u8], word: &mut [u8; 72]) -> Result<u32, u32> {
     let size = word_bytes(card);
     if read.len() != 4 * size {
@@ -232,7 +376,7 @@ fn check_letters(card: &Card, read: &[u8], word: &mut [u8; 72]) -> Result<u32, u
         }
         *byte = a << 6 | b << 4 | c << 2 | d;
     }
-    if !syndromes_zero(card.r, word) {
+    if !mend(card.r, word) {
         return Err(11);
     }
     let seed = u32::from_be_bytes([word[0], word[1], word[2], word[3]]);

@@ -1,7 +1,9 @@
 //! Section "Check bytes, letters, screen", with the read check and its C form,
 //! Item 1 of document 02, "Runs over the joints", and what Item 12, "Why strands
-//! were dropped", says of the screen.
+//! were dropped", says of the screen and Item 3, "Mending misread bytes", of the
+//! read check.
 
+use crate::mending::mend;
 use crate::pool_card::{number_of_bytes, Handed};
 use crate::questions::{
     ask, question_10, question_11, question_12, question_13, question_16_c_form, question_9,
@@ -307,36 +309,52 @@ pub fn compare(measure: Measure, n_bases: usize, m: u8, lo: u16, hi: u16) -> Out
 
 /// What an accepted read gives back. "A read check's payload is 64 bytes, those
 /// past L being 0."
+///
+/// Document 02, Item 3: "its seed and payload come back", those of the legal strand
+/// that the read is within R/2 bytes of, and "The answer gives the number of bytes
+/// mended".
 #[derive(Clone, Copy, Debug, PartialEq, Eq)]
 pub struct Droplet {
     pub seed: u32,
     pub payload: [u8; 64],
+    /// 0 for a read that is the strand itself, else 1 or 2.
+    pub mended: usize,
 }
 
 /// Questions 9 to 13 in their order: "A string is a legal strand if questions 9
 /// to 13, as they are written below, all say yes of it."
+///
+/// Document 02, Item 3: "A read of n legal letters becomes the word with all check
+/// sums 0 that differs from it in at most R/2 bytes". So 9 and 10 are asked of the
+/// read as it is, 11 is whether there is such a word, and 12 and 13 are asked of it.
 ///
 /// Needs questions 2 to 4 and 27 to have said yes.
 pub(crate) fn questions_9_to_13(handed: &Handed, read: &[u8]) -> Result<Droplet, Refusal> {
     ask(question_9(read.len(), handed.n_bases()), 9)?;
     ask(question_10(read), 10)?;
     let bytes = bytes_of_letters(read).expect("4 times (4 + L + R) letters, all of A, C, G, T");
-    ask(question_11(check_sums(&bytes, handed.r)), 11)?;
-    let seed = number_of_bytes(&bytes[0..4]);
+    let mended = mend(&bytes, handed.r);
+    ask(question_11(&mended), 11)?;
+    let mended = mended.expect("question 11 said yes");
+    let seed = number_of_bytes(&mended.word[0..4]);
     ask(question_12(seed), 12)?;
-    let measure = screen(read);
+    let measure = screen(&letters_of_bytes(&mended.word));
     let outcome = compare(measure, handed.n_bases(), handed.m, handed.lo, handed.hi);
     ask(question_13(outcome), 13)?;
 
     let l = usize::from(handed.l);
     let mut payload = [0; 64];
-    payload[..l].copy_from_slice(&bytes[4..4 + l]);
-    Ok(Droplet { seed, payload })
+    payload[..l].copy_from_slice(&mended.word[4..4 + l]);
+    Ok(Droplet {
+        seed,
+        payload,
+        mended: mended.bytes,
+    })
 }
 
 /// "Every other call has 2 to 4 first, then its own, in the order shown." and
 /// "Read check: n letters? 9. All of A, C, G, T? 10. Check sums all 0? 11. Seed
-/// not 0? 12. Screen passed? 13."
+/// not 0? 12. Screen passed? 13.", 11 to 13 as document 02, Item 3, has them.
 pub fn read_check(handed: &Handed, read: &[u8]) -> Result<Droplet, Refusal> {
     handed.card_questions()?;
     questions_9_to_13(handed, read)
@@ -347,6 +365,10 @@ pub fn read_check(handed: &Handed, read: &[u8]) -> Result<Droplet, Refusal> {
 /// first 4 + L bytes, leaves the others as they were and returns 0. Otherwise
 /// it returns the refusal number." and "Then, in the C form alone: buffer at
 /// least 4 + L bytes? 16"
+///
+/// Document 02, Item 3: "the C form still returns 0" for a mended read; seed and
+/// payload are those of the mended strand, and the number of bytes is not handed
+/// out.
 ///
 /// The seed's four bytes stand most significant first. This renders the rules
 /// over slices; it is not itself callable from C.
@@ -367,6 +389,7 @@ pub fn read_check_c_form(handed: &Handed, read: &[u8], buffer: &mut [u8]) -> u32
 #[cfg(test)]
 mod tests {
     use super::*;
+    use crate::mending::{all_words_nearby, Mended};
 
     const P_WEIGHTS: [u8; 8] = [0, 0, 0, 1, 0, 0, 0, 1];
     const P: Handed = Handed {
@@ -882,6 +905,7 @@ mod tests {
         assert_eq!(droplet.seed, 1);
         assert_eq!(droplet.payload[0], 0xE4);
         assert_eq!(droplet.payload[1..], [0; 63]);
+        assert_eq!(droplet.mended, 0);
     }
 
     /// Bench example: "28 letters A under P: 12, since the check sums are 0."
@@ -908,13 +932,6 @@ mod tests {
                 let mut read = *SEED_1;
                 read[place] = other;
                 assert_eq!(read_check(&P, &read), Err(Refusal(10)));
-            }
-            for other in *b"ACGT" {
-                let mut read = *SEED_1;
-                if read[place] != other {
-                    read[place] = other;
-                    assert_eq!(read_check(&P, &read), Err(Refusal(11)));
-                }
             }
         }
         // 2 to 4 come before 9.
@@ -962,6 +979,7 @@ mod tests {
         assert_eq!(read_check_c_form(&P, SEED_1, &mut []), 16);
         assert_eq!(read_check_c_form(&P, b"AAAN", &mut buffer), 9);
         assert_eq!(read_check_c_form(&P, &[b'N'; 28], &mut buffer), 10);
+        // Seven bytes 55 are not within one byte of a strand, as `mending` works out.
         assert_eq!(read_check_c_form(&P, &[b'C'; 28], &mut buffer), 11);
         assert_eq!(read_check_c_form(&P, &[b'A'; 28], &mut buffer), 12);
         let strict = Handed { m: 14, ..P };
@@ -1006,5 +1024,381 @@ mod tests {
         assert_eq!(buffer[..4], [0x12, 0x34, 0x56, 0x78]);
         assert_eq!(buffer[4..68], payload[..]);
         assert_eq!(buffer[68..], [0, 0]);
+    }
+
+    // ------------------------------------------------------------ mending
+
+    /// Documents 01 and 02 write reads in letters: this one with other letters at some
+    /// places.
+    fn misread(strand: &[u8], changes: &[(usize, u8)]) -> Vec<u8> {
+        let mut read = strand.to_vec();
+        for &(place, letter) in changes {
+            assert_ne!(read[place], letter, "{place}");
+            read[place] = letter;
+        }
+        read
+    }
+
+    /// What the read check must say of n legal letters, from all words nearby, which
+    /// are found by brute force. The screen is asked of the letters of that word.
+    fn by_brute_force(handed: &Handed, read: &[u8]) -> Result<Droplet, Refusal> {
+        let mut found = all_words_nearby(&bytes_of_letters(read).unwrap(), handed.r);
+        assert!(found.len() <= 1, "{found:?}");
+        let Some(Mended { word, bytes }) = found.pop() else {
+            return Err(Refusal(11));
+        };
+        if word[..4] == [0; 4] {
+            return Err(Refusal(12));
+        }
+        let l = usize::from(handed.l);
+        if !passes(&letters_of_bytes(&word), handed.m, handed.lo, handed.hi) {
+            return Err(Refusal(13));
+        }
+        let mut payload = [0; 64];
+        payload[..l].copy_from_slice(&word[4..4 + l]);
+        Ok(Droplet {
+            seed: number_of_bytes(&word[..4]),
+            payload,
+            mended: bytes,
+        })
+    }
+
+    /// The droplet of a bench strand: document 01 gives seeds and payloads.
+    fn droplet(seed: u32, byte: u8, mended: usize) -> Droplet {
+        let mut payload = [0; 64];
+        payload[0] = byte;
+        Droplet {
+            seed,
+            payload,
+            mended,
+        }
+    }
+
+    /// The bench strands of seeds 2, 1 and 3, with the payloads 27 xor 4E, E4 and 27.
+    const BENCH: [(&[u8; 28], u32, u8); 3] = [
+        (b"AAAAAAAAAAAAAAAGCGGCGTCCTCTG", 2, 0x69),
+        (SEED_1, 1, 0xE4),
+        (b"AAAAAAAAAAAAAAATAGCTCGAACACA", 3, 0x27),
+    ];
+
+    /// Every one letter wrong.
+    #[test]
+    fn bench_strands_with_one_letter_wrong() {
+        for (strand, seed, byte) in BENCH {
+            assert_eq!(read_check(&P, strand), Ok(droplet(seed, byte, 0)));
+            for place in 0..28 {
+                for letter in *b"ACGT" {
+                    if letter != strand[place] {
+                        let read = misread(strand, &[(place, letter)]);
+                        assert_eq!(read_check(&P, &read), Ok(droplet(seed, byte, 1)));
+                        let mut buffer = [0x77; 7];
+                        assert_eq!(read_check_c_form(&P, &read, &mut buffer), 0);
+                        assert_eq!(buffer, [0, 0, 0, seed as u8, byte, 0x77, 0x77]);
+                    }
+                }
+            }
+        }
+    }
+
+    /// "four bases are one byte": two wrong letters in one byte, and four, are one wrong
+    /// byte, and two in two bytes are two, though they may stand side by side.
+    #[test]
+    fn wrong_letters_of_one_byte() {
+        for (strand, seed, byte) in BENCH {
+            for first in (0..28).step_by(4) {
+                for value in 1..=255u8 {
+                    let mut bytes = bytes_of_letters(strand).unwrap();
+                    bytes[first / 4] ^= value;
+                    let read = letters_of_bytes(&bytes);
+                    assert_eq!(read_check(&P, &read), Ok(droplet(seed, byte, 1)));
+                }
+            }
+        }
+        // The last letter of the payload byte and the first of the first check byte.
+        let read = misread(SEED_1, &[(19, b'C'), (20, b'C')]);
+        assert_eq!(bytes_of_letters(&read).unwrap()[4..6], [0xE5, 0x76]);
+        assert_ne!(read_check(&P, &read), Ok(droplet(1, 0xE4, 2)));
+        assert_eq!(read_check(&P, &read), by_brute_force(&P, &read));
+    }
+
+    /// Two wrong bytes with R = 2 are none of a strand's own: mended to nothing, or to
+    /// some other strand, which may be refused for its seed or by the screen.
+    #[test]
+    fn two_wrong_bytes_with_two_check_bytes() {
+        let loose = Handed { m: 16, ..P };
+        let mut met = [0; 14];
+        for (strand, seed, byte) in BENCH {
+            for first in 0..28 {
+                for second in 4 * (first / 4 + 1)..28 {
+                    for (a, b) in [(b'A', b'C'), (b'C', b'G'), (b'G', b'T'), (b'T', b'A')] {
+                        if strand[first] == a || strand[second] == b {
+                            continue;
+                        }
+                        let read = misread(strand, &[(first, a), (second, b)]);
+                        let answer = read_check(&loose, &read);
+                        assert_eq!(answer, by_brute_force(&loose, &read), "{first} {second}");
+                        match answer {
+                            Ok(other) => {
+                                assert_eq!(other.mended, 1);
+                                assert_ne!((other.seed, other.payload[0]), (seed, byte));
+                                met[0] += 1;
+                            }
+                            Err(Refusal(number)) => met[usize::from(number)] += 1,
+                        }
+                    }
+                }
+            }
+        }
+        assert!(met[0] > 0 && met[11] > 0 && met[13] > 0, "{met:?}");
+    }
+
+    /// P with four check bytes and a screen that lets more pass.
+    const P4: Handed = Handed {
+        r: 4,
+        m: 20,
+        lo: 0,
+        ..P
+    };
+
+    /// The droplet of seed 1 with R = 4: any one wrong letter, and any two, in one byte
+    /// or in two.
+    #[test]
+    fn wrong_bytes_with_four_check_bytes() {
+        let strand = letters_of_bytes(&strand_bytes(1, &[0xE4], 4));
+        assert_eq!(strand.len(), 36);
+        assert_eq!(strand[..20], SEED_1[..20]);
+        assert_eq!(read_check(&P4, &strand), Ok(droplet(1, 0xE4, 0)));
+        let another =
+            |letter: u8, by: u8| letter_of_pair((pair_of_letter(letter).unwrap() + by) % 4);
+        for first in 0..36 {
+            for by in 1..=3 {
+                let read = misread(&strand, &[(first, another(strand[first], by))]);
+                assert_eq!(read_check(&P4, &read), Ok(droplet(1, 0xE4, 1)));
+                for second in 0..first {
+                    for other in 1..=3 {
+                        let read = misread(&read, &[(second, another(strand[second], other))]);
+                        let wrong = if first / 4 == second / 4 { 1 } else { 2 };
+                        assert_eq!(read_check(&P4, &read), Ok(droplet(1, 0xE4, wrong)));
+                    }
+                }
+            }
+        }
+    }
+
+    /// Three wrong bytes with R = 4.
+    #[test]
+    fn three_wrong_bytes_with_four_check_bytes() {
+        let strand = strand_bytes(1, &[0xE4], 4);
+        for places in [[0, 1, 2], [0, 4, 8], [3, 4, 5], [6, 7, 8]] {
+            for values in [[1, 1, 1], [0x40, 3, 0xFF], [0x1B, 0x2D, 0x36]] {
+                let mut bytes = strand.clone();
+                for (place, value) in places.into_iter().zip(values) {
+                    bytes[place] ^= value;
+                }
+                let read = letters_of_bytes(&bytes);
+                assert_eq!(read_check(&P4, &read), by_brute_force(&P4, &read));
+            }
+        }
+    }
+
+    /// A read within R/2 bytes of another strand than the one that was printed becomes
+    /// that: there is nothing in it to tell. The strands of seed 1 and the payloads E4
+    /// and E5 differ in the last three bytes, by 01 03 02 (a bench example).
+    #[test]
+    fn the_nearer_strand() {
+        let loose = Handed { lo: 0, ..P };
+        let read_of = |bytes: [u8; 7]| letters_of_bytes(&bytes);
+        for (bytes, byte, mended) in [
+            ([0, 0, 0, 1, 0xE4, 0x36, 0xD3], 0xE4, 0),
+            ([0, 0, 0, 1, 0xE5, 0x36, 0xD3], 0xE4, 1),
+            ([0, 0, 0, 1, 0xE5, 0x35, 0xD3], 0xE5, 1),
+            ([0, 0, 0, 1, 0xE4, 0x35, 0xD1], 0xE5, 1),
+            ([0, 0, 0, 1, 0xE5, 0x35, 0xD1], 0xE5, 0),
+        ] {
+            assert_eq!(
+                read_check(&loose, &read_of(bytes)),
+                Ok(droplet(1, byte, mended))
+            );
+        }
+    }
+
+    /// "28 letters A under P: 12", and so is a read that is one wrong byte from these,
+    /// whatever its own seed is; with R = 4 one that is two from 36 letters A.
+    #[test]
+    fn a_mended_seed_of_0() {
+        for place in 0..7 {
+            for value in 1..=255 {
+                let mut bytes = [0; 7];
+                bytes[place] = value;
+                assert_eq!(
+                    read_check(&P, &letters_of_bytes(&bytes)),
+                    Err(Refusal(12)),
+                    "{place} {value}"
+                );
+            }
+        }
+        for place in 0..9 {
+            for other in 0..place {
+                let mut bytes = [0; 9];
+                (bytes[place], bytes[other]) = (0x1B, 0x72);
+                let read = letters_of_bytes(&bytes);
+                assert_eq!(read_check(&P4, &read), Err(Refusal(12)), "{place} {other}");
+            }
+        }
+        // A payload of its own, and the seed's last byte read as 2.
+        let mut bytes = strand_bytes(0, &[0x1B], 2);
+        bytes[3] = 2;
+        assert_eq!(read_check(&P, &letters_of_bytes(&bytes)), Err(Refusal(12)));
+    }
+
+    /// A read whose own seed is 0 is accepted if the mended one is not.
+    #[test]
+    fn a_seed_read_as_0() {
+        let read = misread(SEED_1, &[(15, b'A')]);
+        assert_eq!(bytes_of_letters(&read).unwrap()[..4], [0; 4]);
+        assert_eq!(read_check(&P, &read), Ok(droplet(1, 0xE4, 1)));
+    }
+
+    /// What the screen says of letters as they are.
+    fn screened(handed: &Handed, letters: &[u8]) -> Outcome {
+        outcome(letters, handed.m, handed.lo, handed.hi)
+    }
+
+    /// "It passes at m=15, lo=214; m=14 gives 13, and so does lo=215." A wrong letter
+    /// that breaks the run, or adds a C, lets the read itself pass, but not the strand.
+    #[test]
+    fn the_screen_drops_the_mended_strand() {
+        use Outcome::*;
+        let m_14 = Handed { m: 14, ..P };
+        for place in [0, 14] {
+            let read = misread(SEED_1, &[(place, b'C')]);
+            assert_eq!(screened(&m_14, &read), Passes);
+            assert_eq!(screened(&m_14, SEED_1), DroppedForRun);
+            assert_eq!(read_check(&m_14, &read), Err(Refusal(13)));
+            assert_eq!(read_check_c_form(&m_14, &read, &mut [0; 5]), 13);
+        }
+        let lo_215 = Handed { lo: 215, ..P };
+        let read = misread(SEED_1, &[(27, b'C')]);
+        assert_eq!(screened(&lo_215, &read), Passes);
+        assert_eq!(screened(&lo_215, SEED_1), DroppedForGcAlone);
+        assert_eq!(read_check(&lo_215, &read), Err(Refusal(13)));
+        let hi_214 = Handed {
+            lo: 0,
+            hi: 214,
+            ..P
+        };
+        let read = misread(SEED_1, &[(15, b'A')]);
+        let at_16 = Handed { m: 16, ..hi_214 };
+        assert_eq!(screened(&at_16, &read), Passes);
+        assert_eq!(read_check(&at_16, &read), Err(Refusal(13)));
+    }
+
+    /// The other way round: the letters as read have a run of 16, or 5 of 28 are C or
+    /// G, and the strand passes.
+    #[test]
+    fn the_screen_passes_the_mended_strand() {
+        use Outcome::*;
+        let read = misread(SEED_1, &[(15, b'A')]);
+        let no_limits = Handed { lo: 0, ..P };
+        assert_eq!(screened(&no_limits, &read), DroppedForRun);
+        assert_eq!(read_check(&no_limits, &read), Ok(droplet(1, 0xE4, 1)));
+        let read = misread(SEED_1, &[(17, b'A')]);
+        assert_eq!(screened(&P, &read), DroppedForGcAlone);
+        assert_eq!(read_check(&P, &read), Ok(droplet(1, 0xE4, 1)));
+        let hi_215 = Handed { hi: 215, ..P };
+        let read = misread(SEED_1, &[(0, b'G')]);
+        assert_eq!(screened(&hi_215, &read), DroppedForGcAlone);
+        assert_eq!(read_check(&hi_215, &read), Ok(droplet(1, 0xE4, 1)));
+    }
+
+    /// Both ways at the joints: "At m=3 a strand ending in TTT is refused; one ending in
+    /// ATT passes at that joint.", and the same with CCC and GCC at the first joint.
+    #[test]
+    fn the_mended_strand_at_the_joints() {
+        let m_3 = with_m(3);
+        let fine =
+            |read: &[u8]| inside(read) <= 3 && !read.starts_with(b"CCC") && !read.ends_with(b"TTT");
+        for (place, letter, right, wrong) in [
+            (25, b'A', &b"ATT"[..], &b"TTT"[..]),
+            (0, b'G', b"GCC", b"CCC"),
+        ] {
+            let site = wrong[0];
+            let is_there = |read: &[u8], letters: &[u8]| read[place..place + 3] == *letters;
+            let legal = find_read(|read| fine(read) && is_there(read, right));
+            let read = misread(&legal, &[(place, site)]);
+            assert_eq!(screened(&m_3, &read), Outcome::DroppedForRun);
+            assert_eq!(read_check(&m_3, &legal).unwrap().mended, 0);
+            assert_eq!(read_check(&m_3, &read).unwrap().mended, 1);
+
+            let printed_never =
+                find_read(|read| is_there(read, wrong) && fine(&misread(read, &[(place, letter)])));
+            let read = misread(&printed_never, &[(place, letter)]);
+            assert_eq!(screened(&m_3, &read), Outcome::Passes);
+            assert_eq!(read_check(&m_3, &read), Err(Refusal(13)));
+        }
+    }
+
+    /// 9 and 10 are asked of the read as it is: a letter N is not mended, and neither is
+    /// a missing one.
+    #[test]
+    fn letters_and_lengths_are_not_mended() {
+        assert_eq!(read_check(&P, &SEED_1[..27]), Err(Refusal(9)));
+        assert_eq!(read_check(&P, &SEED_1[..24]), Err(Refusal(9)));
+        assert_eq!(read_check(&P, &SEED_1[1..]), Err(Refusal(9)));
+        let with_n = misread(SEED_1, &[(0, b'N')]);
+        assert_eq!(read_check(&P, &with_n), Err(Refusal(10)));
+        let with_n = misread(SEED_1, &[(0, b'T'), (27, b'N')]);
+        assert_eq!(read_check(&P, &with_n), Err(Refusal(10)));
+    }
+
+    /// A wrong byte whose place would be outside the word: seven bytes FF and seven bytes
+    /// 55, as `mending` works out.
+    #[test]
+    fn a_place_outside_the_word() {
+        for letter in [b'C', b'T'] {
+            let read = [letter; 28];
+            let loose = Handed { m: 20, lo: 0, ..P };
+            assert_eq!(read_check(&loose, &read), Err(Refusal(11)));
+            assert_eq!(by_brute_force(&loose, &read), Err(Refusal(11)));
+        }
+    }
+
+    /// The buffer of the C form is asked for last, of a mended read too.
+    #[test]
+    fn c_form_of_a_mended_read() {
+        let read = misread(SEED_1, &[(0, b'T')]);
+        let mut short = [0x77; 4];
+        assert_eq!(read_check_c_form(&P, &read, &mut short), 16);
+        assert_eq!(short, [0x77; 4]);
+        let mut exact = [0x77; 5];
+        assert_eq!(read_check_c_form(&P, &read, &mut exact), 0);
+        assert_eq!(exact, [0, 0, 0, 1, 0xE4]);
+        let two_wrong = letters_of_bytes(&[0, 0, 0, 1, 0xE5, 0x34, 0xD3]);
+        assert_eq!(by_brute_force(&P, &two_wrong), Err(Refusal(11)));
+        assert_eq!(read_check_c_form(&P, &two_wrong, &mut short), 11);
+        assert_eq!(short, [0x77; 4]);
+    }
+
+    /// The longest strand, both of whose wrong bytes are mended.
+    #[test]
+    fn longest_strand_mended() {
+        let handed = Handed {
+            f: 64,
+            l: 64,
+            r: 4,
+            lo: 0,
+            weights: &[0, 0, 0, 1],
+            ..P
+        };
+        let payload: Vec<u8> = (0..64).map(|i| (i * 37 + 11) as u8).collect();
+        let strand = strand_bytes(0x1234_5678, &payload, 4);
+        for (place, other) in [(0, 71), (0, 1), (3, 4), (67, 68), (70, 71), (30, 31)] {
+            let mut bytes = strand.clone();
+            bytes[place] ^= 0x80;
+            bytes[other] ^= 0x80;
+            let droplet = read_check(&handed, &letters_of_bytes(&bytes)).unwrap();
+            assert_eq!((droplet.seed, droplet.mended), (0x1234_5678, 2));
+            assert_eq!(droplet.payload[..], payload[..]);
+        }
     }
 }

@@ -23,6 +23,7 @@ pub mod dealing;
 pub mod droplet;
 pub mod generator_and_seed_schedule;
 pub mod listing;
+pub mod mending;
 pub mod pool_card;
 pub mod questions;
 pub mod restorer;

@@ -120,6 +120,23 @@ AAAN
         );
     }
 
+    /// Document 02, Item 3: one wrong letter in each of the first four lines changes
+    /// nothing, as each is mended.
+    #[test]
+    fn mended_lines() {
+        let lines = b"AAAAAAAAAAAAAAAGCGGCGTCCTCTA
+TAAAAAAAAAAAAAACTGCAATCGTCAT
+AAAAAAAAAAAAAAATAACTCGAACACA
+AAAAAAAAAAAAAAAATGCAATCGTCAT
+AAAN
+";
+        assert_eq!(
+            listing(Some(&P), lines),
+            "reads 5 accepted 3 repeated 1 refused 1\n\
+             segments 4 present 3 sweeps 3 contradictions 0\n"
+        );
+    }
+
     /// Bench example: "An empty shelf: present 0, sweeps 1."
     #[test]
     fn bench_empty_shelf() {

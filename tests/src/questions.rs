@@ -4,6 +4,7 @@
 //! its line. The calls ask them in the order shown there.
 
 use crate::check_bytes_letters_screen::Outcome;
+use crate::mending::Mended;
 use crate::pool_card::{k_of, numbers_of_weights, sum_of_weights};
 
 /// "The first "no" gives the number; a refusal holds that number only, and
@@ -96,17 +97,19 @@ pub fn question_10(read: &[u8]) -> bool {
         .all(|&letter| letter == b'A' || letter == b'C' || letter == b'G' || letter == b'T')
 }
 
-/// "Check sums all 0? 11."
-pub fn question_11(check_sums: [u8; 4]) -> bool {
-    check_sums == [0, 0, 0, 0]
+/// "Check sums all 0? 11." In document 02, Item 3: "Question 11 now says no exactly
+/// if there is no such word", that is, none that the read can be mended to.
+pub fn question_11(mended: &Option<Mended>) -> bool {
+    mended.is_some()
 }
 
-/// "Seed not 0? 12."
+/// "Seed not 0? 12." In document 02, Item 3: "the seed and screen questions look at
+/// the mended strand".
 pub fn question_12(seed: u32) -> bool {
     seed != 0
 }
 
-/// "Screen passed? 13."
+/// "Screen passed? 13." Of the mended strand, as 12.
 pub fn question_13(outcome: Outcome) -> bool {
     outcome == Outcome::Passes
 }

@@ -187,6 +187,40 @@ mod tests {
         assert_eq!(go(&loose, SEED_1, 1), 0); // a repeat needs no space
     }
 
+    /// Document 02, Item 3: "the strings accepted are those of n legal letters within R/2
+    /// bytes of a legal strand", and the shelf takes what the read check accepts. A
+    /// record has seed and payload of the mended strand; a clean read of it is a repeat,
+    /// and so is a mended one of a clean record.
+    #[test]
+    fn mended_reads_are_shelved() {
+        // The first letter of seed 1, its last one, and one in the byte of its seed.
+        let wrong_first: &[u8] = b"TAAAAAAAAAAAAAACTGCAATCGTCAT";
+        let wrong_last: &[u8] = b"AAAAAAAAAAAAAAACTGCAATCGTCAC";
+        let wrong_seed: &[u8] = b"AAAAAAAAAAAAAAATTGCAATCGTCAT";
+        let start = [0x99; 6];
+        for first in [wrong_first, wrong_last, wrong_seed, SEED_1] {
+            let mut shelf = start;
+            let accepted = shelve(&P, first, &mut shelf, 0);
+            assert_eq!(accepted, Ok(Shelved::Accepted { count: 1 }));
+            assert_eq!(shelf, [0, 0, 0, 1, 0xE4, 0x99]);
+            for again in [SEED_1, wrong_last, wrong_seed, wrong_first] {
+                let repeat = shelve(&P, again, &mut shelf, 1);
+                assert_eq!(repeat, Ok(Shelved::Repeat { count: 1 }));
+            }
+            assert_eq!(shelf, [0, 0, 0, 1, 0xE4, 0x99]);
+        }
+        // Another payload for its seed, and no space, are found out after mending.
+        let mut shelf = [0, 0, 0, 1, 0xE5, 0x99];
+        assert_eq!(shelve(&P, wrong_first, &mut shelf, 1), Err(Refusal(15)));
+        assert_eq!(shelve(&P, wrong_first, &mut [0; 4], 0), Err(Refusal(16)));
+        // 14 comes first, and a mended seed of 0 is refused.
+        assert_eq!(shelve(&P, wrong_first, &mut shelf, 2), Err(Refusal(14)));
+        let mut of_seed_0 = [b'A'; 28];
+        of_seed_0[15] = b'C';
+        assert_eq!(shelve(&P, &of_seed_0, &mut shelf, 1), Err(Refusal(12)));
+        assert_eq!(shelf, [0, 0, 0, 1, 0xE5, 0x99]);
+    }
+
     /// Only the first record of a seed counts, on a shelf that holds two.
     #[test]
     fn compared_with_the_first_record_of_its_seed() {

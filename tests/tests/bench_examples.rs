@@ -1,6 +1,6 @@
 //! Every bench example of document 01, over the public calls alone, in its
-//! order; then the examples of document 02, Item 1, card P cut as in Item 2, and
-//! with a fourth field as in Item 14.
+//! order; then the examples of document 02, Item 1, card P cut as in Item 2, its
+//! strands mended as in Item 3, and with a fourth field as in Item 14.
 
 use second::check_bytes_letters_screen::{
     check_bytes, check_sums, count_gc, letters_of_bytes, longest_run, strand_bytes,
@@ -309,6 +309,70 @@ fn card_p_is_cut() {
     assert_eq!(buffer[..28], card);
     assert_eq!(buffer[28..], [0x3F; 2]);
     assert_eq!(cut_card(&p, &mut [0; 27]), Err(Refusal(19)));
+}
+
+/// Document 02, Item 3: "The answer gives the number of bytes mended; the C form still
+/// returns 0." The strand of seed 1 with its first letter T, with its last one C, and
+/// with the last letter of its seed A, so that its seed is read as 0.
+#[test]
+fn misread_strands_of_seed_1() {
+    let card = card_p();
+    let p = handed(&card);
+    for (read, mended) in [
+        (b"AAAAAAAAAAAAAAACTGCAATCGTCAT", 0),
+        (b"TAAAAAAAAAAAAAACTGCAATCGTCAT", 1),
+        (b"AAAAAAAAAAAAAAACTGCAATCGTCAC", 1),
+        (b"AAAAAAAAAAAAAAAATGCAATCGTCAT", 1),
+        (b"TTTTAAAAAAAAAAACTGCAATCGTCAT", 1),
+    ] {
+        let droplet = read_check(&p, read).unwrap();
+        assert_eq!((droplet.seed, droplet.payload[0]), (1, 0xE4));
+        assert_eq!(droplet.payload[1..], [0; 63]);
+        assert_eq!(droplet.mended, mended);
+        let mut buffer = [0x3F; 6];
+        assert_eq!(read_check_c_form(&p, read, &mut buffer), 0);
+        assert_eq!(buffer.to_vec(), hex("00000001 E4 3F"));
+    }
+}
+
+/// "the seed and screen questions look at the mended strand": one letter other than A
+/// among 28 is mended to 28 letters A, and that is 12; "m=14 gives 13, and so does
+/// lo=215", whatever letter was misread.
+#[test]
+fn questions_of_the_mended_strand() {
+    let card = card_p();
+    let p = handed(&card);
+    for place in 0..28 {
+        for letter in b"CGT" {
+            let mut read = [b'A'; 28];
+            read[place] = *letter;
+            assert_eq!(read_check(&p, &read), Err(Refusal(12)));
+        }
+        for letter in b"ACGT" {
+            let mut read = *b"AAAAAAAAAAAAAAACTGCAATCGTCAT";
+            read[place] = *letter;
+            assert!(read_check(&p, &read).is_ok());
+            assert_eq!(read_check(&Handed { m: 14, ..p }, &read), Err(Refusal(13)));
+            assert_eq!(
+                read_check(&Handed { lo: 215, ..p }, &read),
+                Err(Refusal(13))
+            );
+        }
+    }
+}
+
+/// "So the strings accepted are those of n legal letters within R/2 bytes of a legal
+/// strand": the five lines with a wrong letter in the first four.
+#[test]
+fn five_misread_lines() {
+    let misread = "\
+AAAAAAAAAAAAAAAGCGGCGTCCTCTA
+TAAAAAAAAAAAAAACTGCAATCGTCAT
+AAAAAAAAAAAAAAATAACTCGAACACA
+AAAAAAAAAAAAAAAATGCAATCGTCAT
+AAAN
+";
+    assert_eq!(listing(Some(&card_p()), misread.as_bytes()), TWO_LINES);
 }
 
 /// Card P with W = 3, and its weights apart from the field. Document 02, Item 14:

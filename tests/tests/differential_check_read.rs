@@ -9,6 +9,7 @@ use differential::lent::Lent;
 use differential::random::Random;
 use differential::reads;
 use differential::run::{run, Regions};
+use differential::wrong_bytes;
 
 #[cfg(strand_missing)]
 compile_error!("target/staticlib/libstrand.a is missing: `rt staticlib strand` makes it");
@@ -40,7 +41,7 @@ fn case(random: &mut Random, regions: &mut Regions) -> Result<(), String> {
 
     let numbers = &case.numbers;
     let weights = Lent::new(random, &numbers.weights);
-    let read = Lent::new(random, &case.read);
+    let read = Lent::new(random, &case.read.letters);
     let mut lent = Lent::new(random, &case.out);
     regions.note_if(lent.is_null(), "out NULL");
     regions.note_if(read.is_null(), "read NULL");
@@ -76,7 +77,7 @@ fn case(random: &mut Random, regions: &mut Regions) -> Result<(), String> {
     weights
         .holds(&numbers.weights)
         .map_err(|e| report(format!("weights: {e}")))?;
-    read.holds(&case.read)
+    read.holds(&case.read.letters)
         .map_err(|e| report(format!("read: {e}")))?;
     lent.holds(&out).map_err(|e| report(format!("out: {e}")))
 }
@@ -91,6 +92,7 @@ fn check_read() {
             cards::LARGEST_REGIONS,
             reads::REGIONS,
             joints::REGIONS,
+            wrong_bytes::REGIONS,
             REGIONS,
         ],
         case,

@@ -6,10 +6,11 @@ use differential::cards::{self, Numbers};
 use differential::joints;
 use differential::lent::{hex, Lent};
 use differential::random::Random;
-use differential::reads;
+use differential::reads::{self, Read};
 use differential::run::{run, Regions};
 use differential::shelves;
-use second::Shelved;
+use differential::wrong_bytes;
+use second::{Droplet, Shelved};
 
 #[cfg(capi_missing)]
 compile_error!("target/staticlib/libcapi.a is missing: `rt staticlib capi` makes it");
@@ -41,7 +42,7 @@ struct Case {
     /// The shelf and the answer as they are before the call.
     store: Vec<u8>,
     count: usize,
-    read: Vec<u8>,
+    read: Read,
     answer: [u64; 2],
 }
 
@@ -56,7 +57,7 @@ impl Case {
     fn any(random: &mut Random) -> Case {
         let mut numbers = cards::any_accepted(random);
         let read = reads::any_read(random, &mut numbers);
-        let offered = match second::read_check(&numbers.handed(), &read) {
+        let offered = match second::read_check(&numbers.handed(), &read.letters) {
             Ok(droplet) => (
                 droplet.seed,
                 droplet.payload[..usize::from(numbers.l)].to_vec(),
@@ -87,12 +88,16 @@ impl Case {
 
     fn expected(&self) -> After {
         let mut store = self.store.clone();
-        let (number, answer) =
-            match second::shelve(&self.numbers.handed(), &self.read, &mut store, self.count) {
-                Ok(Shelved::Accepted { count }) => (0, [0, count as u64]),
-                Ok(Shelved::Repeat { count }) => (0, [1, count as u64]),
-                Err(refusal) => (refusal.0.into(), self.answer),
-            };
+        let (number, answer) = match second::shelve(
+            &self.numbers.handed(),
+            &self.read.letters,
+            &mut store,
+            self.count,
+        ) {
+            Ok(Shelved::Accepted { count }) => (0, [0, count as u64]),
+            Ok(Shelved::Repeat { count }) => (0, [1, count as u64]),
+            Err(refusal) => (refusal.0.into(), self.answer),
+        };
         After {
             number,
             store,
@@ -110,7 +115,7 @@ impl Case {
         let numbers = &self.numbers;
         let weights = Lent::new(random, &numbers.weights);
         let mut store = Lent::new(random, &self.store);
-        let read = Lent::new(random, &self.read);
+        let read = Lent::new(random, &self.read.letters);
         let mut answer = Lent::new(random, &self.answer);
         regions.note_if(weights.is_null(), "weights NULL");
         regions.note_if(store.is_null(), "shelf NULL");
@@ -149,7 +154,7 @@ impl Case {
         weights
             .holds(&numbers.weights)
             .map_err(|e| report(format!("weights: {e}")))?;
-        read.holds(&self.read)
+        read.holds(&self.read.letters)
             .map_err(|e| report(format!("read: {e}")))?;
         let numbers_differ = |e| {
             report(format!(
@@ -165,13 +170,19 @@ impl Case {
     }
 
     fn report(&self) -> String {
-        let read = String::from_utf8_lossy(&self.read);
+        let read = String::from_utf8_lossy(&self.read.letters);
         format!(
             "{} read {read:?} count {} shelf {}",
             self.numbers.report(),
             self.count,
             hex(&self.store)
         )
+    }
+
+    /// What the read check makes of a read that came to the shelf.
+    fn droplet(&self) -> Droplet {
+        second::read_check(&self.numbers.handed(), &self.read.letters)
+            .expect("a read that came to the shelf is legal")
     }
 
     fn note(&self, regions: &mut Regions, after: &After) {
@@ -187,9 +198,7 @@ impl Case {
         if ![0, 15, 16].contains(&after.number) {
             return;
         }
-        let Ok(droplet) = second::read_check(&self.numbers.handed(), &self.read) else {
-            panic!("a read that came to the shelf is legal");
-        };
+        let droplet = self.droplet();
         let seed = droplet.seed.to_be_bytes();
         let payload = &droplet.payload[..usize::from(self.numbers.l)];
         let on_shelf: Vec<&[u8]> = self.store.chunks_exact(record).collect();
@@ -205,9 +214,11 @@ impl Case {
                 .any(|there| (there[4..] == *payload) == same)
         };
         let full = on_shelf.len() == self.count;
+        let is_mended = droplet.mended > 0;
         match (after.number, after.answer[0]) {
             (0, 0) => {
                 regions.note("accepted");
+                regions.note_if(is_mended, "accepted, mended");
                 regions.note_if(self.count == 0, "accepted as the first");
                 regions.note_if(
                     length == record * (self.count + 1),
@@ -223,11 +234,13 @@ impl Case {
             }
             (0, _) => {
                 regions.note("repeat");
+                regions.note_if(is_mended, "repeat, mended");
                 regions.note_if(full, "repeat on a full shelf");
                 regions.note_if(later(false), "first record the same, a later one not");
             }
             (15, _) => {
                 regions.note_if(full, "15: on a full shelf");
+                regions.note_if(is_mended, "15: mended");
                 regions.note_if(
                     later(true),
                     "15: first record another, a later one the same",
@@ -241,6 +254,7 @@ impl Case {
                 );
             }
             _ => {
+                regions.note_if(is_mended, "16: mended");
                 regions.note_if(length % record == record - 1, "16: a byte short");
                 regions.note_if(length % record == 0, "16: no byte left");
             }
@@ -254,6 +268,7 @@ const REGIONS: &[&str] = &[
     "accepted after 100 records", "repeat", "repeat on a full shelf", "first record the same, a later one not",
     "15: on a full shelf", "15: first record another, a later one the same", "15: only the last byte differs",
     "16: a byte short", "16: no byte left", "shelf NULL", "read NULL", "a list of calls", "27: 14 too", "27: 14 fine",
+    "accepted, mended", "repeat, mended", "15: mended", "16: mended", "a list: mended after clean", "a list: clean after mended",
 ];
 
 /// A record near the one that is offered: its seed, its payload, or neither; or one that differs from it by little.
@@ -312,6 +327,7 @@ fn list_of_calls(random: &mut Random, regions: &mut Regions) -> Result<(), Strin
     let mut store = random.bytes(length);
     let mut count = 0;
     let mut droplets: Vec<(u32, Vec<u8>)> = Vec::new();
+    let mut accepted: Vec<(u32, usize)> = Vec::new();
     for _ in 0..random.between(2, 9) {
         let mut droplet = (
             reads::any_seed(random),
@@ -328,10 +344,12 @@ fn list_of_calls(random: &mut Random, regions: &mut Regions) -> Result<(), Strin
                 },
             );
         }
-        let mut read = reads::read_of(&numbers, droplet.0, &droplet.1);
+        let mut read = Read::of(&numbers, droplet.0, &droplet.1);
         droplets.push(droplet);
-        if random.once_in(6) {
-            reads::damage(random, &numbers, &mut read);
+        match random.below(12) {
+            0 | 1 => reads::damage(random, &numbers, &mut read.letters),
+            2..=5 => wrong_bytes::misread(random, &numbers, &mut read),
+            _ => (),
         }
         let answer = [random.number(), random.number()];
         let case = Case {
@@ -345,6 +363,21 @@ fn list_of_calls(random: &mut Random, regions: &mut Regions) -> Result<(), Strin
         case.note(regions, &expected);
         case.compare(random, regions, &expected)?;
         if expected.number == 0 {
+            let droplet = case.droplet();
+            if expected.answer[0] == 0 {
+                accepted.push((droplet.seed, droplet.mended));
+            } else {
+                let first = accepted.iter().find(|(seed, _)| *seed == droplet.seed);
+                let &(_, mended) = first.expect("a repeat of an accepted read");
+                regions.note_if(
+                    mended == 0 && droplet.mended > 0,
+                    "a list: mended after clean",
+                );
+                regions.note_if(
+                    mended > 0 && droplet.mended == 0,
+                    "a list: clean after mended",
+                );
+            }
             count = expected.answer[1] as usize;
         }
         store = expected.store;
@@ -373,6 +406,7 @@ fn store() {
             cards::LARGEST_REGIONS,
             reads::REGIONS,
             joints::REGIONS,
+            wrong_bytes::REGIONS,
             shelves::REGIONS,
             REGIONS,
         ],

@@ -2,6 +2,7 @@
 //! document 01's text, to numbers that follow from how the input was made, and to `second::listing`.
 
 use second::check_bytes_letters_screen::{letters_of_bytes, strand_bytes};
+use second::mending::all_words_nearby;
 use std::fs::{self, File};
 use std::io::{ErrorKind, Write};
 use std::path::{Path, PathBuf};
@@ -362,6 +363,46 @@ GCCACTTATGTAGGTTAGCTCGTGTGAG
     assert_eq!(
         run("joints-4", Some(&card), input),
         reads(4, 4, 0, 0) + sheet
+    );
+}
+
+#[test]
+fn misread_lines() {
+    // A wrong letter in each of the first four lines of document 01, which is mended: the same sheet.
+    let input = b"AAAAAAAAAAAAAAAGCGGCGTCCTCTA
+TAAAAAAAAAAAAAACTGCAATCGTCAT
+AAAAAAAAAAAAAAATAACTCGAACACA
+AAAAAAAAAAAAAAAATGCAATCGTCAT
+AAAN
+";
+    assert_eq!(run("misread", Some(&P), input), TWO_LINES);
+    // 28 letters A but for one are mended to a seed of 0.
+    let input = b"AAAAAAAAAAAAAAACAAAAAAAAAAAA";
+    let sheet = "segments 4 present 0 sweeps 1 contradictions 0\n";
+    assert_eq!(
+        run("misread-12", Some(&P), input),
+        reads(1, 0, 0, 1) + sheet
+    );
+    // With four check bytes two wrong bytes are mended; three are too many, as no strand is near to them.
+    let card = card_with(1, 1, 1);
+    let strand = strand_bytes(0x1234_5678, &[0x1B], 4);
+    let lines: Vec<Vec<u8>> = [2, 0, 1, 3]
+        .iter()
+        .map(|&wrong| {
+            let mut bytes = strand.clone();
+            for place in 0..wrong {
+                bytes[3 * place] ^= 0x21;
+            }
+            let nearby = all_words_nearby(&bytes, 4);
+            assert_eq!(nearby.iter().any(|near| near.word == strand), wrong < 3);
+            assert_eq!(nearby.len(), usize::from(wrong < 3));
+            letters_of_bytes(&bytes)
+        })
+        .collect();
+    let sheet = "segments 1 present 1 sweeps 2 contradictions 0\n";
+    assert_eq!(
+        run("misread-4", Some(&card), &lines.join(&b'\n')),
+        reads(4, 1, 2, 1) + sheet
     );
 }
 

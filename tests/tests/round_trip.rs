@@ -1,5 +1,6 @@
-//! Write, read back in another order with repeats and losses, shelve, restore.
+//! Write, read back in another order with repeats, losses and wrong bytes, shelve, restore.
 
+use second::check_bytes_letters_screen::{bytes_of_letters, letters_of_bytes};
 use second::*;
 
 fn bytes_of(weights: &[u32]) -> Vec<u8> {
@@ -100,6 +101,62 @@ fn a_file_comes_back() {
     let restored = restore(&handed, &shelf, count, &mut back, &mut marks, &mut list).unwrap();
     assert_eq!((restored.present, restored.contradictions), (100, 0));
     assert_eq!(back[..1990], file);
+}
+
+/// Document 02, Item 3: every strand is read with as many wrong bytes as can be mended,
+/// anywhere in it. Shelf and file are those of clean reads.
+#[test]
+fn a_misread_file_comes_back() {
+    let file: Vec<u8> = (0..1990u32)
+        .map(|i| (i.wrapping_mul(2_654_435_761) >> 24) as u8)
+        .collect();
+    let mut weights = vec![60u32, 500, 170, 80, 50, 35, 25, 20];
+    weights.resize(40, 2);
+    let weights = bytes_of(&weights);
+    for r in [2, 4] {
+        let handed = Handed {
+            f: 1990,
+            l: 20,
+            r,
+            m: 4,
+            lo: 400,
+            hi: 600,
+            dealt: false,
+            width: 0,
+            weights: &weights,
+        };
+        let n = handed.n_bases();
+        let mut printed = vec![0; 300 * (n + 1)];
+        let mut list = [0; 40];
+        let start = 0xACE1_2357;
+        let written = write(&handed, &file, start, 300, 100_000, &mut printed, &mut list);
+        assert_eq!(written.unwrap().made, 300);
+
+        let mut clean = vec![0xEE; 300 * 24 + 1];
+        let mut misread = clean.clone();
+        let mut state = 7;
+        for (count, line) in printed.chunks(n + 1).enumerate() {
+            let accepted = Ok(Shelved::Accepted { count: count + 1 });
+            assert_eq!(shelve(&handed, &line[..n], &mut clean, count), accepted);
+            let mut bytes = bytes_of_letters(&line[..n]).unwrap();
+            let first = next(&mut state, n / 4);
+            bytes[first] ^= 1 + next(&mut state, 255) as u8;
+            if r == 4 {
+                let second = (first + 1 + next(&mut state, n / 4 - 1)) % (n / 4);
+                bytes[second] ^= 1 + next(&mut state, 255) as u8;
+            }
+            let read = letters_of_bytes(&bytes);
+            let droplet = read_check(&handed, &read).unwrap();
+            assert_eq!(droplet.mended, usize::from(r) / 2);
+            assert_eq!(shelve(&handed, &read, &mut misread, count), accepted);
+        }
+        assert_eq!(misread, clean);
+        let mut back = vec![0; 2000];
+        let mut marks = vec![0; 100];
+        let restored = restore(&handed, &misread, 300, &mut back, &mut marks, &mut list).unwrap();
+        assert_eq!((restored.present, restored.contradictions), (100, 0));
+        assert_eq!(back[..1990], file);
+    }
 }
 
 /// Document 02, Item 14: a file is dealt, printed, read, restored and undealt. "what

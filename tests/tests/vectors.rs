@@ -1,4 +1,5 @@
-//! The expected output of the Rattle program `vectors`, typed from the published values, is what this implementation gives.
+//! The expected output of the Rattle program `vectors` is what this implementation gives: the published values, which were typed in, and
+//! what its search finds for misread words.
 
 use std::path::PathBuf;
 

@@ -1,4 +1,4 @@
--- Where every legal read is a strand of one file, so is every record in the store; and more legal reads leave more records.
+-- Where every legal read is near to a strand of one file, every record in the store is the file's; and more legal reads leave more records.
 -- Assumes nothing.
 use mathlib.Core.Path.{_≡_, refl, sym, ap, _∙_, subst}
 use mathlib.Core.List.{List, [], _∷_, _++_}
@@ -16,7 +16,7 @@ use Rattle.decoder.specs.Store.{Record, records}
 use Rattle.decoder.specs.Restorer.{droplets}
 use Rattle.decoder.specs.Demand3.{keptReading, legalReads, firstOfSeed, storedRecords, Call, readsOf, Chained, lastBuffer, lastCount, GivesAll}
 use Rattle.strand.specs.Writer.{payloadFor}
-use Rattle.decoder.specs.Vault.{Among, AllAmong, storeAfter, dropletsOn, legalOf, RoomForAll, PrintedStrand, LegalPrinted, Job}
+use Rattle.decoder.specs.Vault.{Among, AllAmong, storeAfter, dropletsOn, legalOf, RoomForAll, MisreadStrand, LegalPrinted, Job}
 use Rattle.decoder.proofs.AllOf.{all-map, all-front, all-mapped, all-among, among-all, among-mapped}
 use Rattle.decoder.proofs.RecordBytes.{IsRecord}
 use Rattle.decoder.proofs.LegalRead.{InReading, read-recordable}
@@ -39,12 +39,12 @@ one-record c ws file x y hx hy e =
 
 kept-all : (P : Record → Type 0) (o : Reading) (rest : List Record) → InReading P o → All P rest → All P (keptReading o rest)
 kept-all P (refused n) rest h t = t
-kept-all P (droplet s p) rest h t = (h, t)
+kept-all P (droplet s p k) rest h t = (h, t)
 
 kept-among : (o : Reading) (rest rest′ : List Record) → AllAmong rest rest′ → AllAmong (keptReading o rest) (keptReading o rest′)
 kept-among (refused n) rest rest′ f x a = f x a
-kept-among (droplet s p) rest rest′ f x (inl q) = inl q
-kept-among (droplet s p) rest rest′ f x (inr a) = inr (f x a)
+kept-among (droplet s p k) rest rest′ f x (inl q) = inl q
+kept-among (droplet s p k) rest rest′ f x (inr a) = inr (f x a)
 
 module _ (c : Card) (ws : List ℕ) where
   legal-all : (P : Record → Type 0) (reads : List (List ℕ)) → All (λ read. InReading P (readCheck c ws read)) reads → All P (legalReads c ws reads)
@@ -99,11 +99,12 @@ module _ (c : Card) (ws : List ℕ) where
 
     module _ (file : List ℕ) (bytes : AllBytes file) where
       reading-ours : (read : List ℕ) (o : Reading) → readCheck c ws read ≡ o
-          → ((s : ℕ) (p : List ℕ) → readCheck c ws read ≡ droplet s p → PrintedStrand c ws file read) → InReading (OfFile c ws file) o
+          → ((s : ℕ) (p : List ℕ) (k : ℕ) → readCheck c ws read ≡ droplet s p k → MisreadStrand c ws file read) → InReading (OfFile c ws file) o
       reading-ours read (refused n) e f = tt
-      reading-ours read (droplet s p) e f =
-          let legal = printed-legal c ws file bytes read (f s p e) in
-          let same : droplet s p ≡ droplet (legal .0) (payloadFor c ws file (legal .0)) = sym e ∙ legal .1 in
+      reading-ours read (droplet s p k) e f =
+          let misread = f s p k e in
+          let legal = printed-legal c ws file bytes (misread .strand) (misread .printed) in
+          let same : droplet s p k ≡ droplet (legal .0) (payloadFor c ws file (legal .0)) _ = sym e ∙ legal .2 read (misread .near) in
           let seed : s ≡ legal .0 = cc in
           let part : p ≡ payloadFor c ws file (legal .0) = cc in
           ap (payloadFor c ws file) seed ∙ sym part

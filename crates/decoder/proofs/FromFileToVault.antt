@@ -1,4 +1,4 @@
--- From file to vault and back: the claim about every file, every list of store calls whose legal reads are its strands, and
+-- From file to vault and back: the claim about every file, every list of store calls whose legal reads are near to its strands, and
 -- every restore, under one accepted card. Assumes nothing.
 use Rattle.droplet.specs.PoolCard.{cardWeights}
 use Rattle.droplet.proofs.CardAnswers.{reading-accepted}
@@ -17,7 +17,7 @@ from-file-to-vault card c D e =
       interleaves = interleaves c weights fine;
       interleaved = interleaved c weights fine;
       jobs = jobs c weights fine;
-      legal = λ file read bytes. printed-legal c weights file bytes read;
+      legal = λ file strand bytes. printed-legal c weights file bytes strand;
       store = store-ours c weights fine;
       never-15 = never-15 c weights fine;
       back = λ file lent calls job. right-sheet c weights fine file (storeAfter lent calls) (job .size) (store-ours c weights fine file lent calls job);

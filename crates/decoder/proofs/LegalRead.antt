@@ -10,7 +10,7 @@ use Rattle.decoder.proofs.RecordBytes.{IsRecord}
 
 -- what holds of the record of a reading that is a droplet
 abbrev pub InReading : (Record → Type 0) → Reading → Type 0
-InReading P (droplet s p) = P (record { seed = s; payload = p })
+InReading P (droplet s p k) = P (record { seed = s; payload = p })
 InReading P (refused n) = Unit {0}
 
 -- a droplet that a record of L payload bytes holds, or a refusal
@@ -19,8 +19,8 @@ Recordable L = InReading (IsRecord L)
 
 module _ (c : Card) (weights read : List ℕ) where
   reading-recordable : (o : Reading) → readCheck c weights read ≡ o → Recordable (c .l) o
-  reading-recordable (droplet s p) e =
-      let strand = accepts-exactly c weights read s p .0 e in record { seedFits = strand .fits; size = strand .size }
+  reading-recordable (droplet s p k) e =
+      let strand = accepts-exactly c weights read s p k .0 e .strand in record { seedFits = strand .fits; size = strand .size }
   reading-recordable (refused n) e = tt
 
   pub read-recordable : Recordable (c .l) (readCheck c weights read)

@@ -1,4 +1,4 @@
--- Where every legal read is a strand of one file, no store call is refused under 15. Assumes nothing.
+-- Where every legal read is near to a strand of one file, no store call is refused under 15. Assumes nothing.
 use mathlib.Core.Path.{_≡_, refl, sym, ap, _∙_, subst}
 use mathlib.Core.Bool.{Bool, true, false, cond}
 use mathlib.Core.List.{List, [], _∷_}
@@ -18,9 +18,10 @@ use Rattle.droplet.specs.PoolCard.{strandBases}
 use Rattle.droplet.specs.Questions.{cardRefusal}
 use Rattle.strand.specs.Letters.{allLetters, lettersWord}
 use Rattle.strand.specs.Screen.{screenPasses}
-use Rattle.strand.specs.ReadCheck.{Reading, droplet, refused, wordSeed, sumsZero, wordReading, lettersReading, readCheck}
+use Rattle.correction.specs.Correction.{Corrected, codeword, none, corrected}
+use Rattle.strand.specs.ReadCheck.{Reading, droplet, refused, wordSeed, strandReading, correctedReading, wordReading, lettersReading, readCheck}
 use Rattle.decoder.specs.declared.store.StoreAnswer.the-variants as reply
-use Rattle.decoder.specs.Store.{Record, recordBytes, recordsText, records, Found, found, absent, findSeed, Stored, accepted, repeat, refusal, storeAnswer, keptAnswer, appended, compared, storeReading, storeRead}
+use Rattle.decoder.specs.Store.{Record, recordBytes, recordsText, records, Found, found, absent, findSeed, Stored, accepted, repeat, refusal, storeAnswer, keptAnswer, appended, compared, storeRecord, storeReading, storeRead}
 use Rattle.decoder.specs.Demand3.{Holds, Call, readsOf, nextCount, Chained}
 use Rattle.strand.specs.Writer.{payloadFor}
 use Rattle.decoder.specs.Vault.{Job}
@@ -39,7 +40,7 @@ numberOf (refusal q) = q
 
 -- the read check's own numbers are others
 abbrev Other : Reading → Type 0
-Other (droplet s p) = Unit {0}
+Other (droplet s p k) = Unit {0}
 Other (refused q) = q ≡ 15 → ⊥
 
 -- of an answer by a test, each of its two cases
@@ -48,16 +49,18 @@ of-test true x y f g = f
 of-test false x y f g = g
 
 module _ (c : Card) (ws : List ℕ) (fine : cardRefusal c ws ≡ 0) where
+  word-other : (a : Corrected) → Other (correctedReading c a)
+  unfolding strandReading
+  word-other (codeword word k) =
+      of-test (eqb (wordSeed word) 0) _ _ (λ e. omega arith) (of-test (screenPasses c word) _ _ tt (λ e. omega arith))
+  word-other none = λ e. omega arith
+
   read-other : (read : List ℕ) → Other (readCheck c ws read)
   unfolding readCheck lettersReading wordReading
   read-other read =
-      let word = lettersWord read in
       rw fine
       (of-test (eqb (length read) (strandBases c)) _ _
-      (of-test (allLetters read) _ _
-      (of-test (sumsZero c word) _ _
-      (of-test (eqb (wordSeed word) 0) _ _ (λ e. omega arith) (of-test (screenPasses c word) _ _ tt (λ e. omega arith)))
-      (λ e. omega arith)) (λ e. omega arith)) (λ e. omega arith))
+      (of-test (allLetters read) _ _ (word-other (corrected (c .r) (lettersWord read))) (λ e. omega arith)) (λ e. omega arith))
 
   module _ (file : List ℕ) where
     found-ours : (s : ℕ) (rs : List Record) (q : List ℕ) → All (OfFile c ws file) rs → findSeed s rs ≡ found q → payloadFor c ws file s ≡ q
@@ -85,9 +88,9 @@ module _ (c : Card) (ws : List ℕ) (fine : cardRefusal c ws ≡ 0) where
 
     reading-other : (buffer : List ℕ) (count : ℕ) → All (OfFile c ws file) (records (c .l) count buffer) → (o : Reading) → Other o → InReading (OfFile c ws file) o
         → numberOf (keptAnswer (storeReading (c .l) buffer count o)) ≡ 15 → ⊥
-    unfolding storeReading
+    unfolding storeReading storeRecord
     reading-other buffer count h (refused q) n f = n
-    reading-other buffer count h (droplet s p) n f =
+    reading-other buffer count h (droplet s p k) n f =
         compared-other buffer count (record { seed = s; payload = p }) (findSeed s (records (c .l) count buffer))
         (λ q e. sym (found-ours s (records (c .l) count buffer) q h e) ∙ f)
 

@@ -14,7 +14,7 @@ use lib.Seq.{take-all, take-append-le}
 use Rattle.field.specs.Bytes.{All, sameBytes}
 use Rattle.field.proofs.Tests.{either}
 use Rattle.strand.specs.ReadCheck.{Reading, droplet, refused}
-use Rattle.decoder.specs.Store.{Record, recordBytes, Found, found, absent, findSeed, records, recordsText, Stored, accepted, repeat, refusal, Kept, keptAnswer, keptBuffer, appended, compared, storeReading, countFits}
+use Rattle.decoder.specs.Store.{Record, recordBytes, Found, found, absent, findSeed, records, recordsText, Stored, accepted, repeat, refusal, Kept, keptAnswer, keptBuffer, appended, compared, storeRecord, storeReading, countFits}
 use Rattle.decoder.specs.Restorer.{hasSeed}
 use Rattle.decoder.specs.Demand3.{Holds}
 use Rattle.decoder.proofs.AllOf.{all-front}
@@ -34,7 +34,7 @@ countAfter count (refusal q) = count
 
 -- the records so far, and the reading's if its seed is new
 abbrev pub grown : List Record → Reading → List Record
-grown rs (droplet s p) = cond (hasSeed s rs) rs (rs ++ (record { seed = s; payload = p } ∷ []))
+grown rs (droplet s p k) = cond (hasSeed s rs) rs (rs ++ (record { seed = s; payload = p } ∷ []))
 grown rs (refused q) = rs
 
 -- after a call the store holds as many of these records as fit
@@ -96,23 +96,23 @@ module _ (L : ℕ) (lent : List ℕ) where
           | inr t ↦ rw t h
         ]
 
-    compared-holds : (s : ℕ) (p : List ℕ) → IsRecord L (record { seed = s; payload = p }) → (o : Found)
+    compared-holds : (s : ℕ) (p : List ℕ) (k : ℕ) → IsRecord L (record { seed = s; payload = p }) → (o : Found)
         → findSeed s (take (room L lent) rs) ≡ o
-        → HoldsAfter L lent (grown rs (droplet s p)) count (compared L buffer count (record { seed = s; payload = p }) o)
+        → HoldsAfter L lent (grown rs (droplet s p k)) count (compared L buffer count (record { seed = s; payload = p }) o)
     unfolding compared
-    compared-holds s p f absent e =
+    compared-holds s p k f absent e =
         elim (either (hasSeed s rs)) [
           | inl t ↦
               rw t (appended-full (record { seed = s; payload = p })
               (later-has s (room L lent) rs t (absent-has s (take (room L lent) rs) e)))
           | inr t ↦ rw t (appended-new (record { seed = s; payload = p }) f)
         ]
-    compared-holds s p f (found q) e =
+    compared-holds s p k f (found q) e =
         rw (front-has s (room L lent) rs (found-has s (take (room L lent) rs) q e))
         (elim (either (sameBytes q p)) [ inl t ↦ rw t h | inr t ↦ rw t h ])
 
     pub reading-holds : (o : Reading) → Recordable L o → HoldsAfter L lent (grown rs o) count (storeReading L buffer count o)
-    unfolding storeReading
+    unfolding storeReading storeRecord
     reading-holds (refused q) f = record { number = h .number; bytes = rw (h .bytes) }
-    reading-holds (droplet s p) f =
-        compared-holds s p f (findSeed s (records L count buffer)) (ap (findSeed s) (sym (held-records (take (room L lent) rs) buffer count held-good h)))
+    reading-holds (droplet s p k) f =
+        compared-holds s p k f (findSeed s (records L count buffer)) (ap (findSeed s) (sym (held-records (take (room L lent) rs) buffer count held-good h)))

@@ -28,13 +28,13 @@ grown-first : (rs : List Record) (o : Reading) (later : List Record)
     → rs ++ firstOfSeed rs (keptReading o later) ≡ grown rs o ++ firstOfSeed (grown rs o) later
 unfolding firstOfSeed
 grown-first rs (refused q) later = refl
-grown-first rs (droplet s p) later =
+grown-first rs (droplet s p k) later =
     let r : Record = record { seed = s; payload = p } in
     elim (either (hasSeed s rs)) [ inl e ↦ rw e | inr e ↦ rw e (sym (append-assoc rs (r ∷ []) (firstOfSeed (rs ++ (r ∷ [])) later))) ]
 
 pub grown-all : (P : Record → Type 0) (rs : List Record) (o : Reading) → InReading P o → All P rs → All P (grown rs o)
 grown-all P rs (refused q) f good = good
-grown-all P rs (droplet s p) f good =
+grown-all P rs (droplet s p k) f good =
     elim (either (hasSeed s rs)) [ inl e ↦ rw e good | inr e ↦ rw e (all-append P rs (record { seed = s; payload = p } ∷ []) good (f, tt)) ]
 
 count-next : (count : ℕ) (a : StoreAnswer) → nextCount count a ≡ countAfter count (storeAnswer a)

@@ -1,5 +1,5 @@
--- Document 01, "Bench examples": all starred lines, each part of each, and then examples of document 02's Item 1 and our own of Items 12, 2
--- and 14, as rows of one list under one proposition, over the definitions that the contracts cite. Assumes nothing.
+-- Document 01, "Bench examples": all starred lines, each part of each, and then examples of document 02's Item 1 and our own of Items 3, 12,
+-- 2 and 14, as rows of one list under one proposition, over the definitions that the contracts cite. Assumes nothing.
 use mathlib.Core.Path.{_≡_, refl}
 use mathlib.Core.Bool.{true, false}
 use mathlib.Core.List.{List, [], _∷_, _++_}
@@ -17,13 +17,14 @@ use Rattle.droplet.specs.CardCutter.{Cut, cut, CutEnd, ended, cutCard}
 use Rattle.droplet.specs.Droplet.{degreeFrom, degree, member, pickFrom, degreeOf, segmentsOf, segment, payload}
 use Rattle.interleave.specs.Interleaving.{withRemainder, firstColumns, interleave, columnStart, interleavedPlace, deinterleave, reordered}
 use Rattle.interleave.specs.InterleaveCalls.{bothLong, reorderRefusal, Reordered, done, ReorderEnd, fileReordered, reorderFile}
+use Rattle.correction.specs.Correction.{sumsZero, differs, distance, firstOf, within, corrected}
 use Rattle.strand.specs.declared.writer.Stop.the-variants.{Done, Spent}
 use Rattle.strand.specs.Letters.{letterOf, letterBits, textLetters, lettersBases, allLetters, byteBases, wordBases, byteLetters, wordLetters, lettersByte, lettersWord}
 use Rattle.strand.specs.Sites.{siteBefore, siteAfter}
 use Rattle.strand.specs.Screen.{orderOf, withBase, longestOf, longestRun, gcCount, measureOf, verdict, wordVerdict, screenPasses}
-use Rattle.strand.specs.ReadCheck.{Reading, droplet, refused, sumsZero, wordReading, lettersReading, readCheck, strandWord}
+use Rattle.strand.specs.ReadCheck.{Reading, droplet, refused, strandReading, wordReading, lettersReading, readCheck, strandWord}
 use Rattle.strand.specs.Writer.{seedWord, oneTry, writeFrom, writerRun, ownRefusal, writerRefusal, Written, written, writerAnswer}
-use Rattle.decoder.specs.Store.{accepted, repeat, Kept, kept, recordBytes, recordText, recordPayload, recordFrom, records, findSeed, appended, compared, storeReading, storeRead}
+use Rattle.decoder.specs.Store.{accepted, repeat, Kept, kept, recordBytes, recordText, recordPayload, recordFrom, records, findSeed, appended, compared, storeRecord, storeReading, storeRead}
 use Rattle.decoder.specs.Store.Stored.{refusal}
 use Rattle.decoder.specs.Restorer.{droplets, marked, missing, known, filled, filledBy, step, pass, present, peel, cleared, peelAll, contradicts, contradictions, hasSeed, roomRefusal, laterRefusal, restoreRefusal, restored, RestoreEnd, restoreEnd, restore}
 
@@ -128,6 +129,17 @@ abbrev pub letters3 : List ℕ
 letters3 =
     65 ∷ 65 ∷ 65 ∷ 65 ∷ 65 ∷ 65 ∷ 65 ∷ 65 ∷ 65 ∷ 65 ∷ 65 ∷ 65 ∷ 65 ∷ 65 ∷ 65 ∷ 84 ∷ 65 ∷ 71 ∷ 67 ∷ 84 ∷ 67 ∷ 71 ∷ 65 ∷ 65 ∷ 67 ∷ 65 ∷ 67 ∷ 65 ∷ []
 
+-- the strand of seed 1 misread: all four letters of its first byte, which is one wrong byte; its first and its last letter, which are two;
+-- and a strand of seed 0 with its last letter misread (document 02, Item 3)
+abbrev pub oneByteWrong : List ℕ
+oneByteWrong = textLetters "TTTTAAAAAAAAAAACTGCAATCGTCAT"
+
+abbrev pub twoBytesWrong : List ℕ
+twoBytesWrong = textLetters "TAAAAAAAAAAAAAACTGCAATCGTCAA"
+
+abbrev pub zeroMisread : List ℕ
+zeroMisread = textLetters "AAAAAAAAAAAAAAAAAAAAAAAAAAAC"
+
 -- document 02, Item 1: strands that make a run with the site behind or before them or just miss one, and two with no run over 2 and
 -- over 1, though both sites have runs of 3
 abbrev pub endsInTTT : List ℕ
@@ -148,7 +160,8 @@ runsOfTwo = textLetters "ATCTCCATTAGCGTTCTTGGTAAGAGGA"
 abbrev pub noRuns : List ℕ
 noRuns = textLetters "GACAGTATCTCGCATGCTCTGCTATGCA"
 
--- the last sixteen: ten strands of Q, with the strands dropped on the way under three pairs of limits, and a budget that is spent on a
+-- the last twenty: a read with one byte wrong, whose mended strand has a run of 15 though the read has none over 11, one with two, and one
+-- whose mended seed is 0 (document 02, Item 3); ten strands of Q, with the strands dropped on the way under three pairs of limits, and a budget that is spent on a
 -- strand with both faults (document 02, Item 12); card P cut into a buffer with a byte to spare and into one a byte short, and a plan
 -- that is refused before the buffer is (Item 2); the card with W 3 read and cut, its file dealt and undealt, each from a byte more into a
 -- byte more, and W 7, 1 and 8, a source and a target a byte short (Item 14)
@@ -162,7 +175,7 @@ rows =
     ∷ checks (0x01 ∷ []) (0x03 ∷ 0x02 ∷ [])
     ∷ checks (0x01 ∷ 0x00 ∷ []) (0x07 ∷ 0x06 ∷ [])
     ∷ prints 1 (0x00 ∷ 0x00 ∷ 0x00 ∷ 0x01 ∷ 0xE4 ∷ 0x36 ∷ 0xD3 ∷ []) letters1 15 6
-    ∷ reads 15 214 letters1 (droplet 1 (0xE4 ∷ []))
+    ∷ reads 15 214 letters1 (droplet 1 (0xE4 ∷ []) 0)
     ∷ reads 14 214 letters1 (refused 13)
     ∷ reads 15 215 letters1 (refused 13)
     ∷ steps 0x80000000 0x000000C5
@@ -174,14 +187,18 @@ rows =
     ∷ restores (letters2 ∷ letters1 ∷ letters3 ∷ [])
     (restoreEnd (restored 3 3 0) (record { file = 0x00 ∷ 0x27 ∷ 0x4E ∷ 0xE4 ∷ []; marks = 0 ∷ 1 ∷ 1 ∷ 1 ∷ [] }))
     ∷ reads 3 214 endsInTTT (refused 13)
-    ∷ reads 4 214 endsInTTT (droplet 0xD2193288 (0x36 ∷ []))
+    ∷ reads 4 214 endsInTTT (droplet 0xD2193288 (0x36 ∷ []) 0)
     ∷ reads 2 214 endsInATT (refused 13)
-    ∷ reads 3 214 endsInATT (droplet 0x09046CF0 (0x66 ∷ []))
+    ∷ reads 3 214 endsInATT (droplet 0x09046CF0 (0x66 ∷ []) 0)
     ∷ reads 3 214 startsWithCCC (refused 13)
-    ∷ reads 4 214 startsWithCCC (droplet 0x56B6FBD7 (0x3E ∷ []))
-    ∷ reads 3 214 startsWithGCC (droplet 0x9681F4A1 (0x33 ∷ []))
-    ∷ reads 2 214 runsOfTwo (droplet 0x3753C9BD (0xFA ∷ []))
-    ∷ reads 1 214 noRuns (droplet 0x84B3764E (0x77 ∷ []))
+    ∷ reads 4 214 startsWithCCC (droplet 0x56B6FBD7 (0x3E ∷ []) 0)
+    ∷ reads 3 214 startsWithGCC (droplet 0x9681F4A1 (0x33 ∷ []) 0)
+    ∷ reads 2 214 runsOfTwo (droplet 0x3753C9BD (0xFA ∷ []) 0)
+    ∷ reads 1 214 noRuns (droplet 0x84B3764E (0x77 ∷ []) 0)
+    ∷ reads 15 214 oneByteWrong (droplet 1 (0xE4 ∷ []) 1)
+    ∷ reads 14 214 oneByteWrong (refused 13)
+    ∷ reads 15 214 twoBytesWrong (refused 11)
+    ∷ reads 15 214 zeroMisread (refused 12)
     ∷ writes (limitsP 3 450 550) 0x12345678 10 1000 (written Done 10 62 0xD862C7F9 23 29)
     ∷ writes (limitsP 4 450 550) 0x12345678 10 1000 (written Done 10 49 0x506EC32B 7 32)
     ∷ writes (limitsP 3 400 600) 0x12345678 10 1000 (written Done 10 13 0x8ACEB9DE 2 1)
@@ -201,7 +218,7 @@ rows =
     ∷ []
 
 pub examples : All Holds rows
-unfolding cardReading cardReadingRefusal wellFormed cardBytes widthField fieldBytes toTwoBytes cardNumbers weightsEnd widthThere widthRight cutCard withRemainder firstColumns interleave columnStart interleavedPlace tableOf deinterleave reordered bothLong reorderRefusal fileReordered reorderFile seedAfter seedWord segmentsOf degreeOf degree degreeFrom pickFrom member ofSeed afterDraw numberDrawn xorshift segment payload padded strandWord toBigEndian fromBigEndian parity remainderAfter xorLists multiple byRoot timesPower double shiftUp horner syndromes cardRefusal sizesRight limitsRight weightsRight segmentCount strandBytes firstWeights weightAt numberAt letterOf letterBits allLetters byteBases wordBases byteLetters wordLetters lettersByte lettersWord textLetters lettersBases siteBefore siteAfter orderOf withBase longestOf longestRun gcCount measureOf verdict wordVerdict screenPasses sumsZero wordReading lettersReading readCheck recordBytes recordText recordPayload recordFrom records sameBytes findSeed appended compared storeReading storeRead droplets marked missing known filled filledBy step pass present peel cleared peelAll contradicts contradictions hasSeed roomRefusal laterRefusal restoreRefusal restore oneTry writeFrom writerRun ownRefusal writerRefusal
+unfolding cardReading cardReadingRefusal wellFormed cardBytes widthField fieldBytes toTwoBytes cardNumbers weightsEnd widthThere widthRight cutCard withRemainder firstColumns interleave columnStart interleavedPlace tableOf deinterleave reordered bothLong reorderRefusal fileReordered reorderFile seedAfter seedWord segmentsOf degreeOf degree degreeFrom pickFrom member ofSeed afterDraw numberDrawn xorshift segment payload padded strandWord toBigEndian fromBigEndian parity remainderAfter xorLists multiple byRoot timesPower double shiftUp horner syndromes cardRefusal sizesRight limitsRight weightsRight segmentCount strandBytes firstWeights weightAt numberAt letterOf letterBits allLetters byteBases wordBases byteLetters wordLetters lettersByte lettersWord textLetters lettersBases siteBefore siteAfter orderOf withBase longestOf longestRun gcCount measureOf verdict wordVerdict screenPasses sumsZero differs distance firstOf within corrected strandReading wordReading lettersReading readCheck recordBytes recordText recordPayload recordFrom records sameBytes findSeed appended compared storeRecord storeReading storeRead droplets marked missing known filled filledBy step pass present peel cleared peelAll contradicts contradictions hasSeed roomRefusal laterRefusal restoreRefusal restore oneTry writeFrom writerRun ownRefusal writerRefusal
 examples = (
   (refl, refl),
   (
@@ -218,7 +235,7 @@ examples = (
               refl,
               (
                 (refl, refl, refl, refl),
-                (refl, (refl, (refl, (refl, (refl, (refl, (refl, (refl, (refl, (refl, (refl, (refl, (refl, (refl, (refl, (refl, (refl, (refl, (refl, (refl, (refl, (refl, (refl, (refl, (refl, (refl, ((refl, refl), (refl, (refl, (refl, (refl, (refl, (refl, (refl, (refl, tt))))))))))))))))))))))))))))))))))),
+                (refl, (refl, (refl, (refl, (refl, (refl, (refl, (refl, (refl, (refl, (refl, (refl, (refl, (refl, (refl, (refl, (refl, (refl, (refl, (refl, (refl, (refl, (refl, (refl, (refl, (refl, (refl, (refl, (refl, (refl, ((refl, refl), (refl, (refl, (refl, (refl, (refl, (refl, (refl, (refl, tt))))))))))))))))))))))))))))))))))))))),
               ),
             ),
           ),

@@ -20,9 +20,9 @@ use Rattle.decoder.specs.Restorer.{Droplet, droplets, marked, hasSeed, p
 
 -- ---- the store
 
--- "keep the legal ones", in the order offered
+-- "keep the legal ones", in the order offered: those that the read check accepts, corrected ones among them
 abbrev pub keptReading : Reading → List Record → List Record
-keptReading (droplet s p) rest = record { seed = s; payload = p } ∷ rest
+keptReading (droplet s p k) rest = record { seed = s; payload = p } ∷ rest
 keptReading (refused n) rest = rest
 
 unfoldable pub legalReads : Card → List ℕ → List (List ℕ) → List Record

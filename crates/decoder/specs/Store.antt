@@ -86,11 +86,15 @@ unfoldable pub compared : ℕ → List ℕ → ℕ → Record → Found → Kept
 compared L buffer count r absent = appended L buffer count r
 compared L buffer count r (found p) = cond (sameBytes p (r .payload)) (kept (repeat count) buffer) (kept (refusal 15) buffer)
 
--- "The caller takes the droplet out of the read check's answer, or hands its refusal on"
+-- a droplet's record, beside those in the store
+unfoldable pub storeRecord : ℕ → List ℕ → ℕ → Record → Kept
+storeRecord L buffer count r = compared L buffer count r (findSeed (r .seed) (records L count buffer))
+
+-- "The caller takes the droplet out of the read check's answer, or hands its refusal on"; a read that was corrected is legal as any other
+-- (document 02, Item 3)
 unfoldable pub storeReading : ℕ → List ℕ → ℕ → Reading → Kept
 storeReading L buffer count (refused q) = kept (refusal q) buffer
-storeReading L buffer count (droplet s p) =
-    compared L buffer count (record { seed = s; payload = p }) (findSeed s (records L count buffer))
+storeReading L buffer count (droplet s p k) = storeRecord L buffer count (record { seed = s; payload = p })
 
 -- 14: "count times (4+L) within the shelf?"
 abbrev pub countFits : ℕ → List ℕ → ℕ → Bool

@@ -1,5 +1,6 @@
--- From file to vault and back: what a store and its restore sheet are worth where every legal read is a strand that the writer
--- printed for one file. Reads may be lost, repeated and in any order, and what the read check refuses may be anything.
+-- From file to vault and back: what a store and its restore sheet are worth where every legal read differs in at most R/2 bytes from a
+-- strand that the writer printed for one file (document 02, Item 3). Reads may be lost, repeated and in any order, and what the read check
+-- refuses may be anything.
 -- The file is the one that the writer was handed. Where the card has a width, that is the customer's file interleaved (document 02,
 -- Item 14: "what the restorer promises is promised of the dealt file"), and the last step gives the customer's. Assumes nothing.
 use mathlib.Core.Path.{_≡_}
@@ -16,6 +17,7 @@ use Rattle.droplet.specs.Droplet.{segment}
 use Rattle.interleave.specs.declared.file.ReorderAnswer.{ReorderAnswer}
 use Rattle.interleave.specs.InterleaveCalls.{done, reorderAnswer, InterleavePromise, DeinterleavePromise}
 use Rattle.strand.specs.ReadCheck.{droplet, readCheck}
+use Rattle.strand.specs.LegalStrand.{bytesApart, NearStrand}
 use Rattle.strand.specs.Writer.{payloadFor}
 use Rattle.strand.specs.WriterRuns.{PrintedRun, printedLine}
 use Rattle.decoder.specs.declared.store.StoreAnswer.the-variants as reply
@@ -59,15 +61,22 @@ module _ (c : Card) (weights : List ℕ) where
   -- ---- the premises: what the writer printed, what was stored, what was restored
 
   -- a strand that the writer prints for a file: the n letters of a line that a call, not refused, left in its buffer
-  pub record PrintedStrand (file read : List ℕ) : Type 0 where
+  pub record PrintedStrand (file strand : List ℕ) : Type 0 where
     pub by : PrintedRun c weights file
     pub line : ℕ
     pub made : line < by .run .made
-    pub letters : read ≡ printedLine by line
+    pub letters : strand ≡ printedLine by line
 
-  -- each read that the read check accepts is a strand that the writer prints for this file
+  -- a read that differs in at most R/2 bytes from a strand that the writer prints for a file
+  pub record MisreadStrand (file read : List ℕ) : Type 0 where
+    pub strand : List ℕ
+    pub printed : PrintedStrand file strand
+    pub near : NearStrand c strand read
+
+  -- each read that the read check accepts is so near to a strand that the writer prints for this file
   abbrev pub LegalPrinted : List ℕ → List (List ℕ) → Type 0
-  LegalPrinted file reads = All (λ read. (s : ℕ) (p : List ℕ) → readCheck c weights read ≡ droplet s p → PrintedStrand file read) reads
+  LegalPrinted file reads =
+      All (λ read. (s : ℕ) (p : List ℕ) (k : ℕ) → readCheck c weights read ≡ droplet s p k → MisreadStrand file read) reads
 
   -- a job: a file of F bytes, and store calls from an empty store, a buffer of any length and bytes
   pub record Job (file lent : List ℕ) (calls : List Call) : Type 0 where
@@ -132,12 +141,15 @@ module _ (c : Card) (weights : List ℕ) where
     -- dealing it is done, and gives a file of F bytes
     pub interleaved : (original file : List ℕ) (from : InterleavedFrom original file)
         → (reorderAnswer (from .answer) ≡ done) × (length file ≡ c .f) × AllBytes file
-    -- such jobs exist, for every list of reads of which the legal ones are strands of the file
+    -- such jobs exist, for every list of reads of which the legal ones are so near to strands of the file
     pub jobs : (file lent : List ℕ) (reads : List (List ℕ)) → length file ≡ c .f → AllBytes file → LegalPrinted file reads
         → (calls : List Call) × Job file lent calls × (readsOf calls ≡ reads)
-    -- every strand that the writer prints is a legal read: its seed, and the file's payload for it
-    pub legal : (file read : List ℕ) → AllBytes file → PrintedStrand file read
-        → (s : ℕ) × (readCheck c weights read ≡ droplet s (payloadFor c weights file s))
+    -- every strand that the writer prints is a legal read: its seed, and the file's payload for it; and a read that is damaged in at most
+    -- R/2 of its bytes is always accepted, with that seed and payload and the number of bytes
+    pub legal : (file strand : List ℕ) → AllBytes file → PrintedStrand file strand
+        → (s : ℕ) × (readCheck c weights strand ≡ droplet s (payloadFor c weights file s) 0)
+        × ((read : List ℕ) → NearStrand c strand read
+        → readCheck c weights read ≡ droplet s (payloadFor c weights file s) (bytesApart strand read))
     -- every record in the store is a droplet of the file
     pub store : (file lent : List ℕ) (calls : List Call) → Job file lent calls → GivesAll (c .l) file (dropletsOn (storeAfter lent calls))
     -- no read is refused for a payload that differs from the store's

@@ -1,9 +1,9 @@
 ghost use mathlib.Core.Path.{_≡_};
 ghost use Prim.Native.Nat.{_≤_};
 ghost use lib.ListN.{length};
-ghost use Rattle.strand.specs.ReadCheck.{droplet, lettersReading};
+ghost use Rattle.strand.specs.ReadCheck.{lettersReading};
 ghost use Rattle.strand.specs.Loops.{InRange};
-ghost use Rattle.decoder.specs.Store.{countFits, appended, storeReading, StorePromise};
+ghost use Rattle.decoder.specs.Store.{countFits, appended, storeRecord, storeReading, StorePromise};
 ghost use Rattle.decoder.specs.StoreLoops.{Within, Sought, Keeps, refusalNumber};
 use crate::records::payload_in;
 use crate::records::put_record;
@@ -83,7 +83,7 @@ fn append(store: &mut [u8], count: usize, seed: u32, payload: &[u8]) -> StoreAns
 // Takes a droplet in: question 15, of the first record of its seed, and where there is none question 16.
 fn store_droplet(store: &mut [u8], count: usize, seed: u32, payload: &[u8]) -> StoreAnswer
     requires { ⌜ Within (length (now payload)) count (now store) ⌝ }
-    ensures { λ r. ⌜ Keeps (storeReading (length (now (payload .entry))) (now (store .entry)) count (droplet seed (now (payload .entry)))) r (now (store .exit)) ⌝ }
+    ensures { λ r. ⌜ Keeps (storeRecord (length (now (payload .entry))) (now (store .entry)) count (record { seed = seed; payload = now (payload .entry) })) r (now (store .exit)) ⌝ }
 {
     let Place::At(at) = find_seed(store, payload.len(), count, seed) else {
         return append(store, count, seed, payload);

@@ -10,6 +10,7 @@ use lib.Dec.{eqb, leb}
 use lib.ListN.{length}
 use borrow.Author.Tests.{leb-true, eqb-true}
 use Rattle.field.specs.CheckBytes.{CheckCount}
+use Rattle.field.proofs.Syndromes.{checks-bounds}
 use Rattle.droplet.specs.declared.card.Card.{Card}
 use Rattle.droplet.specs.PoolCard.{weightCount, weightSum, segmentCount, strandBytes}
 use Rattle.droplet.specs.Questions.{within, sizesRight, limitsRight, weightsRight, widthRight, cardRefusal}
@@ -40,10 +41,6 @@ checks-true r e = go (eqb r 2) refl e
     go : (b : Bool) → eqb r 2 ≡ b → (b || eqb r 4) ≡ true → CheckCount r
     go true h t = inl (eqb-true r 2 h)
     go false h t = inr (eqb-true r 4 t)
-
-pub checks-bounds : {r : ℕ} → CheckCount r → (2 ≤ r) × (r ≤ 4)
-checks-bounds (inl e) = omega arith
-checks-bounds (inr e) = omega arith
 
 module _ (c : Card) where
   -- the tests of F and L

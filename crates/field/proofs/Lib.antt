@@ -9,10 +9,11 @@ pub mod Words
 pub mod Iterates
 pub mod Schedule
 pub mod Primes
-pub mod SeedProducts
+pub mod Products
 pub mod SeedPowers
 pub mod SeedPeriod
 pub mod Powers
+pub mod FieldProducts
 pub mod Horner
 pub mod Weights
 pub mod Parity

@@ -1,7 +1,7 @@
 -- Multiplication by powers of the root: linear, commuting, adding up, and different at each byte but 0. Assumes nothing.
 use mathlib.Core.Path.{_≡_, refl, sym, ap, _∙_, subst}
 use mathlib.Core.Bool.{Bool}
-use Prim.Native.Nat.{ℕ, zero, suc, _+_, _^_, _<_}
+use Prim.Native.Nat.{ℕ, zero, suc, _+_, _*_, _^_, _<_}
 use native.Mathlib.Nat.{zero-add, suc-add}
 use native.Mathlib.Omega.{arith}
 use lib.Bits.{bitXor}
@@ -9,15 +9,20 @@ use lib.Dec.{T, eqb, ltb, eqb→eq, eqb-refl, lt→ltb, lit<}
 use Rattle.field.specs.Shift.{shiftUp}
 use Rattle.field.specs.CheckBytes.{double, timesPower}
 use Rattle.field.proofs.Tests.{below, at, implies, modus}
-use Rattle.field.proofs.Xor.{shiftUp-xor, shiftUp-lt}
+use Rattle.field.proofs.Xor.{shiftUp-xor, shiftUp-lt, shiftUp-low}
 
 pub double-xor : (x y : ℕ) → double (bitXor x y) ≡ bitXor (double x) (double y)
 unfolding double
 double-xor x y = shiftUp-xor 7 _ x y
 
-double-lt : (x : ℕ) → double x < 2 ^ 8
+pub double-lt : (x : ℕ) → double x < 2 ^ 8
 unfolding double
 double-lt x = shiftUp-lt 7 _ x (lit< tt)
+
+-- a byte with room above is doubled as a number
+pub double-low : (x : ℕ) → x < 2 ^ 7 → double x ≡ x * 2
+unfolding double
+double-low = shiftUp-low 7 _
 
 pub power-xor : (i x y : ℕ) → timesPower i (bitXor x y) ≡ bitXor (timesPower i x) (timesPower i y)
 unfolding timesPower
@@ -34,7 +39,7 @@ unfolding timesPower
 power-lt zero x h = h
 power-lt (suc i) x h = power-lt i (double x) (double-lt x)
 
-power-double : (i x : ℕ) → timesPower i (double x) ≡ double (timesPower i x)
+pub power-double : (i x : ℕ) → timesPower i (double x) ≡ double (timesPower i x)
 unfolding timesPower
 power-double zero x = refl
 power-double (suc i) x = power-double i (double x)

@@ -10,7 +10,7 @@ use lib.Dec.{lit<}
 use lib.ListN.{length, getD}
 use Rattle.field.specs.Shift.{shiftUp}
 use Rattle.field.specs.Generator.{schedulePolynomial, IsSeed, seedAfter, iterate, seedsFrom}
-use Rattle.field.proofs.Xor.{shiftUp-xor, shiftUp-lt}
+use Rattle.field.proofs.Xor.{shiftUp-xor, shiftUp-lt, shiftUp-low}
 
 pub step-xor : (a b : ℕ) → seedAfter (bitXor a b) ≡ bitXor (seedAfter a) (seedAfter b)
 unfolding seedAfter
@@ -22,11 +22,8 @@ step-lt s = shiftUp-lt 31 schedulePolynomial s (lit< tt)
 
 -- a seed with room above is doubled
 pub step-low : (s : ℕ) → s < 2 ^ 31 → seedAfter s ≡ s * 2
-unfolding seedAfter shiftUp
-step-low s h =
-    let o : s / 2 ^ 31 % 2 ≡ 0 = omega arith in
-    let u : s * 2 % 2 ^ 32 ≡ s * 2 = omega arith in
-    rw (o, u)
+unfolding seedAfter
+step-low = shiftUp-low 31 schedulePolynomial
 
 -- one with the top bit set steps to an odd one
 step-high : (s : ℕ) → 2 ^ 31 ≤ s → s < 2 ^ 32 → seedAfter s % 2 ≡ 1

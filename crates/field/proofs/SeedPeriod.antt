@@ -9,12 +9,12 @@ use lib.Dec.{T, lit<}
 use Rattle.field.specs.Shift.{shiftUp}
 use Rattle.field.specs.Generator.{seedAfter, iterate}
 use Rattle.field.specs.SeedPeriod.{period, PeriodIs, PositionsDiffer}
-use Rattle.field.specs.SeedProducts.{times, product}
+use Rattle.field.specs.Products.{times, seedProduct}
 use Rattle.field.proofs.Tests.{below}
 use Rattle.field.proofs.Iterates.{iterate-add, iterate-mul, fixed-mul}
 use Rattle.field.proofs.Schedule.{steps-seed}
 use Rattle.field.proofs.Primes.{prime, trial, divides}
-use Rattle.field.proofs.SeedProducts.{Linear, at-zero, by-one, product-one, linear-same, linear-after, linear-beside, linear-iterate, linear-times, steps-product}
+use Rattle.field.proofs.Products.{Linear, at-zero, by-one, product-one, linear-same, linear-after, linear-beside, linear-iterate, linear-times, seed-step, steps-product}
 use Rattle.field.proofs.SeedPowers.{raised, jumps}
 
 -- the k-th power of x, and its difference from 1
@@ -30,25 +30,27 @@ inverse a = raised 32 (period - 1) a 1
 
 -- a seed times its inverse
 abbrev inverted : ℕ → ℕ
-inverted a = product (inverse a) a
+inverted a = seedProduct (inverse a) a
 
 module _ (k : ℕ) (small : k < 2 ^ 32) (s : ℕ) (h : s < 2 ^ 32) where
-  power-steps : iterate k seedAfter s ≡ product s (power k)
-  power-steps = steps-product k s h ∙ ap (product s) (sym (jumps k 1 small (omega arith)))
+  power-steps : iterate k seedAfter s ≡ seedProduct s (power k)
+  power-steps = steps-product k s h ∙ ap (seedProduct s) (sym (jumps k 1 small (omega arith)))
 
   -- where the k-th power of x is 1, k steps come back
   comes-back : power k ≡ 1 → iterate k seedAfter s ≡ s
-  comes-back e = power-steps ∙ ap (product s) e ∙ product-one s h
+  comes-back e = power-steps ∙ ap (seedProduct s) e ∙ product-one seed-step s h
 
   -- where its difference from 1 has an inverse, k steps move every seed
-  moves : (u : ℕ) → product u (difference k) ≡ 1 → 0 < s → iterate k seedAfter s ≡ s → ⊥
+  moves : (u : ℕ) → seedProduct u (difference k) ≡ 1 → 0 < s → iterate k seedAfter s ≡ s → ⊥
   moves u e pos i =
       let d : ℕ → ℕ = λ v. bitXor v (iterate k seedAfter v) in
-      let l : Linear (λ v. product u (d v)) =
-      linear-after d (product u) (linear-beside (λ v. v) (iterate k seedAfter) linear-same (linear-iterate k)) (linear-times 32 u) in
-      let one : product u (d 1) ≡ 1 = ap (λ v. product u (bitXor 1 v)) (sym (jumps k 1 small (omega arith))) ∙ e in
-      let back : product u (d s) ≡ s = by-one (λ v. product u (d v)) l s h ∙ ap (product s) one ∙ product-one s h in
-      let gone : product u (d s) ≡ 0 = ap (λ v. product u (bitXor s v)) i ∙ ap (product u) (xor-self s) ∙ at-zero (product u) (linear-times 32 u) in
+      let l : Linear seedAfter (λ v. seedProduct u (d v)) =
+      linear-after d (seedProduct u) (linear-beside seed-step (λ v. v) (iterate k seedAfter) linear-same (linear-iterate seed-step k))
+      (linear-times seed-step 32 u) in
+      let one : seedProduct u (d 1) ≡ 1 = ap (λ v. seedProduct u (bitXor 1 v)) (sym (jumps k 1 small (omega arith))) ∙ e in
+      let back : seedProduct u (d s) ≡ s = by-one seed-step (λ v. seedProduct u (d v)) l s h ∙ ap (seedProduct s) one ∙ product-one seed-step s h in
+      let gone : seedProduct u (d s) ≡ 0 = ap (λ v. seedProduct u (bitXor s v)) i ∙ ap (seedProduct u) (xor-self s)
+      ∙ at-zero (seedProduct u) (linear-times seed-step 32 u) in
       omega arith
 
 comes-back-after : (s : ℕ) → s < 2 ^ 32 → iterate period seedAfter s ≡ s

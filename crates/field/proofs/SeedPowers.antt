@@ -5,25 +5,25 @@ use Prim.Native.Nat.{ℕ, zero, suc, _+_, _*_, _/_, _%_, _^_, _<_}
 use native.Mathlib.Nat.{pow-suc, mul-one, zero-mul, mul-add, add-mul}
 use native.Mathlib.Omega.{arith}
 use Rattle.field.specs.Generator.{seedAfter, iterate}
-use Rattle.field.specs.SeedProducts.{product}
+use Rattle.field.specs.Products.{seedProduct}
 use Rattle.field.proofs.Iterates.{iterate-add}
 use Rattle.field.proofs.Schedule.{step-low, steps-lt}
-use Rattle.field.proofs.SeedProducts.{steps-product}
+use Rattle.field.proofs.Products.{steps-product}
 
 -- s times b for the bit 1, and s for the bit 0
 abbrev pub bitRaised : ℕ → ℕ → ℕ → ℕ
 bitRaised zero b s = s
-bitRaised (suc d) b s = product s b
+bitRaised (suc d) b s = seedProduct s b
 
 -- s times the power of b whose exponent is k, of n bits
 unfoldable pub raised : ℕ → ℕ → ℕ → ℕ → ℕ
 raised zero k b s = s
-raised (suc n) k b s = raised n (k / 2) (product b b) (bitRaised (k % 2) b s)
+raised (suc n) k b s = raised n (k / 2) (seedProduct b b) (bitRaised (k % 2) b s)
 
 -- where b is the seed p steps after 1, its square is the seed twice as many after 1
-pub squared : (p b : ℕ) → b ≡ iterate p seedAfter 1 → product b b ≡ iterate (p + p) seedAfter 1
+pub squared : (p b : ℕ) → b ≡ iterate p seedAfter 1 → seedProduct b b ≡ iterate (p + p) seedAfter 1
 squared p b e =
-    ap (λ v. product v v) e ∙ sym (steps-product p (iterate p seedAfter 1) (steps-lt p 1 (omega arith)))
+    ap (λ v. seedProduct v v) e ∙ sym (steps-product p (iterate p seedAfter 1) (steps-lt p 1 (omega arith)))
     ∙ sym (iterate-add seedAfter p p 1)
 
 -- k times p, by the lowest bit of k and its half
@@ -38,7 +38,7 @@ module _ (p b : ℕ) (e : b ≡ iterate p seedAfter 1) where
   unfolding iterate
   bit-jumps zero s h w = ap (λ n. iterate n seedAfter s) (sym (zero-mul p))
   bit-jumps (suc zero) s h w =
-      ap (product s) e ∙ sym (steps-product p s w) ∙ ap (λ n. iterate n seedAfter s) (let one : p ≡ 1 * p = omega arith in one)
+      ap (seedProduct s) e ∙ sym (steps-product p s w) ∙ ap (λ n. iterate n seedAfter s) (let one : p ≡ 1 * p = omega arith in one)
   bit-jumps (suc (suc d)) s h w = omega arith
 
   -- the lowest bit of k taken, what is left is as many double steps
@@ -54,7 +54,7 @@ raised-is : (n k p b s : ℕ) → k < 2 ^ n → b ≡ iterate p seedAfter 1 → 
 unfolding raised iterate
 raised-is zero k p b s h e w = let z : k ≡ 0 = omega arith in ap (λ n. iterate n seedAfter s) (sym (ap (λ m. m * p) z ∙ zero-mul p))
 raised-is (suc n) k p b s h e w =
-    raised-is n (k / 2) (p + p) (product b b) (bitRaised (k % 2) b s) (omega (arith, pow-suc 2 n)) (squared p b e)
+    raised-is n (k / 2) (p + p) (seedProduct b b) (bitRaised (k % 2) b s) (omega (arith, pow-suc 2 n)) (squared p b e)
     (bit-lt p b e (k % 2) s (omega arith) w)
     ∙ jump-turn p b e k s w
 

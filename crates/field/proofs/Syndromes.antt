@@ -2,16 +2,22 @@
 use mathlib.Core.Path.{_≡_, refl, sym, ap, ap₂, _∙_}
 use mathlib.Core.Bool.{Bool, true, false}
 use mathlib.Core.List.{List, [], _∷_, foldl}
-use mathlib.Core.Logic.{_↔_}
-use Prim.Native.Nat.{ℕ, zero, suc, _<_, _≤_}
+use mathlib.Core.Logic.{_↔_, inl, inr}
+use Prim.Native.Nat.{ℕ, zero, suc, _^_, _<_, _≤_}
 use native.Mathlib.Omega.{arith}
 use native.Mathlib.Decide.{decLt}
 use borrow.Author.Tests.{lt-ltb, le-ltb}
 use lib.Bits.{bitXor}
-use lib.Dec.{ltb}
+use lib.Dec.{ltb, lit<}
 use lib.ListN.{getD, replicate, getD-replicate}
-use Rattle.field.specs.CheckBytes.{timesPower, horner, valueAt, Vanishes, orZero, syndromeAt, syndromes}
+use Rattle.field.specs.Bytes.{AllBytes}
+use Rattle.field.specs.CheckBytes.{CheckCount, timesPower, horner, valueAt, Vanishes, orZero, syndromeAt, syndromes}
 use Rattle.field.specs.Loops.{sumAfter, sumsAfter}
+use Rattle.field.proofs.Horner.{horner-lt}
+
+pub checks-bounds : {R : ℕ} → CheckCount R → (2 ≤ R) × (R ≤ 4)
+checks-bounds (inl e) = omega arith
+checks-bounds (inr e) = omega arith
 
 module _ (R : ℕ) (word : List ℕ) where
   inside : (i : ℕ) → i < R → syndromeAt R word i ≡ valueAt i word
@@ -28,6 +34,9 @@ module _ (R : ℕ) (word : List ℕ) where
   syndrome-at (suc (suc (suc zero))) h = refl
   syndrome-at (suc (suc (suc (suc i)))) h = omega arith
 
+  pub syndrome-value : R ≤ 4 → (i : ℕ) → i < R → getD (syndromes R word) i 0 ≡ valueAt i word
+  syndrome-value few i h = syndrome-at i (omega arith) ∙ inside i h
+
   pub syndromes-vanish : R ≤ 4 → (syndromes R word ≡ replicate 4 0) ↔ Vanishes R word
   unfolding syndromes
   syndromes-vanish h = (
@@ -35,6 +44,18 @@ module _ (R : ℕ) (word : List ℕ) where
         ∙ getD-replicate 4 i 0 0 (omega arith),
     λ v. ap₂ _∷_ (zero-at v 0) (ap₂ _∷_ (zero-at v 1) (ap₂ _∷_ (zero-at v 2) (ap₂ _∷_ (zero-at v 3) refl))),
   )
+
+-- ---- the sums of a word of bytes are bytes
+
+zero-or-lt : (inside : Bool) (n : ℕ) → n < 2 ^ 8 → orZero inside n < 2 ^ 8
+zero-or-lt true n h = h
+zero-or-lt false n h = lit< tt
+
+pub syndromes-bytes : (R : ℕ) (word : List ℕ) → AllBytes word → AllBytes (syndromes R word)
+unfolding syndromes
+syndromes-bytes R word hs =
+    let byte : (i : ℕ) → syndromeAt R word i < 2 ^ 8 = (λ i. zero-or-lt (ltb i R) (valueAt i word) (horner-lt i 0 word (lit< tt) hs)) in
+    (byte 0, (byte 1, (byte 2, (byte 3, tt))))
 
 -- ---- the sums as a fold over the word
 

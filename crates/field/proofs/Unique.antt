@@ -45,7 +45,7 @@ quotient-value i j v a (b ∷ bs) =
     ≡ bitXor (bitXor (timesPower j w) (timesPower i w)) (bitXor (timesPower i a) b) = simp (power-xor, power-comm i j, xors) in
     ap (λ (y : ℕ). horner j y bs) e ∙ quotient-value i j w (bitXor (timesPower i a) b) bs
 
-abbrev Zeros : List ℕ → Type 0
+abbrev pub Zeros : List ℕ → Type 0
 Zeros [] = Unit {0}
 Zeros (x ∷ xs) = (x ≡ 0) × Zeros xs
 
@@ -83,7 +83,7 @@ zero-word (suc n) i (b ∷ bs) e h hs v =
     (quotient-bytes i b bs (hs .0) (hs .1))
     (λ j k m. quotient-vanishes i j b bs k (omega arith) hs vi (sym (horner-first j b bs) ∙ v j (omega arith) (omega arith)))) vi
 
-xorLists-zero : (xs ys : List ℕ) → length xs ≡ length ys → Zeros (xorLists xs ys) → xs ≡ ys
+pub xorLists-zero : (xs ys : List ℕ) → length xs ≡ length ys → Zeros (xorLists xs ys) → xs ≡ ys
 unfolding xorLists
 xorLists-zero [] [] e z = refl
 xorLists-zero [] (y ∷ ys) e z = absurd (let n : ⊥ = omega arith in n)

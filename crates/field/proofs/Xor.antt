@@ -3,7 +3,7 @@
 use mathlib.Core.Path.{_≡_, refl, sym, ap, ap₂, _∙_}
 use mathlib.Core.Bool.{Bool}
 use Prim.Native.Nat.{ℕ, zero, suc, _+_, _*_, _/_, _%_, _^_, _<_}
-use native.Mathlib.Nat.{mod-lt, add-zero, zero-lt-suc}
+use native.Mathlib.Nat.{mod-lt, div-eq-of-lt, mod-eq-of-lt, pow-suc, add-zero, zero-lt-suc}
 use native.Mathlib.Omega.{arith}
 use lib.Dec.{eqb, eqb→eq}
 use lib.Arith.{bin-ind}
@@ -78,3 +78,10 @@ folded-lt k p (suc o) u hp h = xor-lt k u p h hp
 pub shiftUp-lt : (k p x : ℕ) → p < 2 ^ suc k → shiftUp k p x < 2 ^ suc k
 unfolding shiftUp
 shiftUp-lt k p x h = folded-lt (suc k) p (x / 2 ^ k % 2) (x * 2 % 2 ^ suc k) h (mod-lt (x * 2) (pow-pos (suc k)))
+
+-- a word with room above is doubled
+pub shiftUp-low : (k p x : ℕ) → x < 2 ^ k → shiftUp k p x ≡ x * 2
+unfolding shiftUp
+shiftUp-low k p x h =
+    let u : x * 2 % 2 ^ suc k ≡ x * 2 = mod-eq-of-lt (omega (arith, pow-suc 2 k)) in
+    rw (div-eq-of-lt h, u)

@@ -2,6 +2,6 @@ pub mod Bytes
 pub mod Shift
 pub mod Generator
 pub mod SeedPeriod
-pub mod SeedProducts
 pub mod CheckBytes
+pub mod Products
 pub mod Loops

@@ -12,8 +12,9 @@ use Rattle.droplet.specs.Questions.{sizesRight, limitsRight, weightsRight, widt
 use Rattle.strand.specs.Letters.{letterBits, textLetters, lettersBases, allLetters, byteBases, wordBases, lettersByte, lettersWord}
 use Rattle.strand.specs.Sites.{siteBefore, siteAfter}
 use Rattle.strand.specs.Screen.{orderOf, withBase, longestOf, longestRun, gcCount, measureOf, verdict, wordVerdict, screenPasses}
-use Rattle.strand.specs.ReadCheck.{sumsZero, wordReading, lettersReading, readCheck}
-use Rattle.decoder.specs.Store.{recordBytes, recordText, recordPayload, recordFrom, records, findSeed, appended, compared, storeReading, storeRead}
+use Rattle.correction.specs.Correction.{sumsZero, differs, distance, firstOf, within, corrected}
+use Rattle.strand.specs.ReadCheck.{strandReading, wordReading, lettersReading, readCheck}
+use Rattle.decoder.specs.Store.{recordBytes, recordText, recordPayload, recordFrom, records, findSeed, appended, compared, storeRecord, storeReading, storeRead}
 use Rattle.decoder.specs.BenchExamples.{cardP, weights, letters1, letters2, letters3}
 use Rattle.listing.specs.Listing.{Listed, lastLine, linesFrom, linesOf, afterAnswer, afterLine, listing}
 
@@ -49,5 +50,5 @@ rows =
     ∷ []
 
 pub examples : All Holds rows
-unfolding lastLine linesFrom afterAnswer afterLine listing toBigEndian fromBigEndian timesPower double shiftUp horner syndromes cardRefusal sizesRight limitsRight weightsRight widthRight segmentCount strandBytes firstWeights weightAt numberAt letterBits allLetters byteBases wordBases lettersByte lettersWord textLetters lettersBases siteBefore siteAfter orderOf withBase longestOf longestRun gcCount measureOf verdict wordVerdict screenPasses sumsZero wordReading lettersReading readCheck recordBytes recordText recordPayload recordFrom records sameBytes findSeed appended compared storeReading storeRead
+unfolding lastLine linesFrom afterAnswer afterLine listing toBigEndian fromBigEndian timesPower double shiftUp horner syndromes cardRefusal sizesRight limitsRight weightsRight widthRight segmentCount strandBytes firstWeights weightAt numberAt letterBits allLetters byteBases wordBases lettersByte lettersWord textLetters lettersBases siteBefore siteAfter orderOf withBase longestOf longestRun gcCount measureOf verdict wordVerdict screenPasses sumsZero differs distance firstOf within corrected strandReading wordReading lettersReading readCheck recordBytes recordText recordPayload recordFrom records sameBytes findSeed appended compared storeRecord storeReading storeRead
 examples = (refl, (refl, (refl, (refl, (refl, (refl, (refl, (refl, tt))))))))

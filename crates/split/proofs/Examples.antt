@@ -6,7 +6,7 @@ use lib.Dec.{T, ltb, ltb→lt}
 use Rattle.field.specs.Bytes.{All}
 use Rattle.field.specs.Shift.{shiftUp}
 use Rattle.field.specs.Generator.{seedAfter}
-use Rattle.field.specs.SeedProducts.{times}
+use Rattle.field.specs.Products.{times}
 use Rattle.field.proofs.Tests.{both, both-left, both-right}
 use Rattle.field.proofs.SeedPowers.{raised, jumps}
 use Rattle.split.specs.SeedPosition.{seed, seedAt}

@@ -41,15 +41,15 @@ module _ (c : Card) (ws file : List ℕ) where
   -- ---- lines, by what the read check gives back
 
   module _ (bytes : AllBytes file) where
-    line-seed : (p : PrintedRun c ws file) (i : ℕ) → i < p .run .made → (s : ℕ) (payload : List ℕ)
-        → readCheck c ws (printedLine p i) ≡ droplet s payload → s ≡ seedOf c ws file p i
-    line-seed p i h s payload e =
-        let same : droplet s payload ≡ droplet (seedOf c ws file p i) _ = sym e ∙ line-read c ws file p i h bytes in
+    line-seed : (p : PrintedRun c ws file) (i : ℕ) → i < p .run .made → (s : ℕ) (payload : List ℕ) (k : ℕ)
+        → readCheck c ws (printedLine p i) ≡ droplet s payload k → s ≡ seedOf c ws file p i
+    line-seed p i h s payload k e =
+        let same : droplet s payload k ≡ droplet (seedOf c ws file p i) _ _ = sym e ∙ line-read c ws file p i h bytes in
         cc
 
     lines-differ : (p q : PrintedRun c ws file) (i j : ℕ) → i < p .run .made → j < q .run .made → (seedOf c ws file p i ≡ seedOf c ws file q j → ⊥)
         → OtherSeed c ws (printedLine p i) (printedLine q j)
-    lines-differ p q i j h k differ s s′ a a′ e e′ same = differ (sym (line-seed p i h s a e) ∙ same ∙ line-seed q j k s′ a′ e′)
+    lines-differ p q i j h l differ s s′ a a′ k k′ e e′ same = differ (sym (line-seed p i h s a k e) ∙ same ∙ line-seed q j l s′ a′ k′ e′)
 
     none-twice : (p : PrintedRun c ws file) → p .run .tried ≤ period → NoneTwice c ws file p
     none-twice p few i j h k other = lines-differ p p i j h k (other-lines p few i j h k other)

@@ -15,7 +15,7 @@ use Rattle.split.specs.SeedPosition.{seed, seedAt}
 -- if the read check accepts two reads, their seeds differ
 abbrev pub OtherSeed : Card → List ℕ → List ℕ → List ℕ → Type 0
 OtherSeed c weights read read′ =
-    (s s′ : ℕ) (p p′ : List ℕ) → readCheck c weights read ≡ droplet s p → readCheck c weights read′ ≡ droplet s′ p′ → s ≡ s′ → ⊥
+    (s s′ : ℕ) (p p′ : List ℕ) (k k′ : ℕ) → readCheck c weights read ≡ droplet s p k → readCheck c weights read′ ≡ droplet s′ p′ k′ → s ≡ s′ → ⊥
 
 module _ (c : Card) (weights file : List ℕ) where
   -- the seed k steps after a run's start; the run tried it if k is below tried
@@ -24,7 +24,7 @@ module _ (c : Card) (weights file : List ℕ) where
 
   -- a line carries a seed, with the file's payload for it
   abbrev pub Carries : PrintedRun c weights file → ℕ → ℕ → Type 0
-  Carries p i s = readCheck c weights (printedLine p i) ≡ droplet s (payloadFor c weights file s)
+  Carries p i s = readCheck c weights (printedLine p i) ≡ droplet s (payloadFor c weights file s) 0
 
   -- no two lines of a run carry the same seed
   abbrev pub NoneTwice : PrintedRun c weights file → Type 0

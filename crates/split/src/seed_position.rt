@@ -1,6 +1,6 @@
 ghost use mathlib.Core.Path.{_≡_};
 ghost use Rattle.field.specs.Generator.{seedAfter, iterate};
-ghost use Rattle.field.specs.SeedProducts.{product};
+ghost use Rattle.field.specs.Products.{seedProduct};
 ghost use Rattle.split.specs.SeedPosition.{seedAnswer, seedAt};
 use field::generator::step_seed;
 
@@ -12,7 +12,7 @@ pub enum SeedAnswer {
 
 // The product of two seeds as polynomials: `b` stepped i times for each bit i of `a` that is a one, XORed together.
 fn product_of(a: u32, b: u32) -> u32
-    ensures { λ r. ⌜ r ≡ product a b ⌝ }
+    ensures { λ r. ⌜ r ≡ seedProduct a b ⌝ }
 {
     let mut sum: u32 = 0;
     let mut bits = a;

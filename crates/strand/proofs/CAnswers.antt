@@ -11,8 +11,8 @@ use Rattle.droplet.proofs.LegalCard.{legal}
 use Rattle.strand.specs.declared.read_check.ReadOutcome.the-variants.{Droplet, Refused}
 use Rattle.strand.specs.declared.read_check.ReadAnswer.{ReadAnswer}
 use Rattle.strand.specs.ReadCheck.{readCheck, Answers}
-use Rattle.strand.specs.ReadCheck.Reading.{droplet, refused}
-use Rattle.strand.specs.CForm.{handedOver}
+use Rattle.strand.specs.ReadCheck.Reading.{refused}
+use Rattle.strand.specs.CForm.{dropletOver, handedOver}
 use Rattle.strand.specs.CForm.CAnswer.{handed}
 use Rattle.strand.proofs.LegalStrands.{accepts-exactly}
 use Rattle.strand.proofs.ReadAnswers.{Accepts, accepts, refuses}
@@ -27,13 +27,14 @@ module _ (c : Card) (weights read : List ℕ) (r : ReadAnswer) (answers : Answer
 
   module _ (seed : ℕ) (found : r .outcome ≡ Droplet seed) where
     told : Accepts (c .l) (readCheck c weights read) seed (r .payload)
-    told = accepts (c .l) _ r answers (λ s p e. accepts-exactly c weights read s p .0 e .size) seed found
+    told = accepts (c .l) _ r answers (λ s p k e. accepts-exactly c weights read s p k .0 e .strand .size) seed found
 
     pub narrow : c .l ≤ 64
-    narrow = legal c weights (accepts-exactly c weights read seed (told .payload) .0 (told .accepted) .card) .sizes .l-most
+    narrow = legal c weights (accepts-exactly c weights read seed (told .payload) (told .number) .0 (told .accepted) .strand .card) .sizes .l-most
 
     pub array-size : length (r .payload) ≡ 64
     array-size = ap length (told .held) ∙ padded-length 64 (told .payload) (omega (arith, told .size, narrow))
 
-    pub droplet-handed : (out : List ℕ) → handedOver (c .l) out (droplet seed (take (c .l) (r .payload))) ≡ handedOver (c .l) out (readCheck c weights read)
-    droplet-handed out = ap (handedOver (c .l) out) (ap (droplet seed) (told .first) ∙ sym (told .accepted))
+    pub droplet-handed : (out : List ℕ) → dropletOver (c .l) out seed (take (c .l) (r .payload)) ≡ handedOver (c .l) out (readCheck c weights read)
+    unfolding handedOver
+    droplet-handed out = ap (dropletOver (c .l) out seed) (told .first) ∙ sym (ap (handedOver (c .l) out) (told .accepted))

@@ -8,7 +8,10 @@ pub mod MatchRows
 pub mod Chunks
 pub mod StrandWords
 pub mod ReadingCases
+pub mod CodewordParts
+pub mod LetThrough
 pub mod LegalStrands
+pub mod NearReads
 pub mod CAnswers
 pub mod SeedWords
 pub mod Tries

@@ -121,7 +121,7 @@ module _ (c : Card) (ws file : List ℕ) where
 
       -- the read check gives back that seed, and the file's payload for it
       pub line-read : AllBytes file
-          → readCheck c ws (printedLine p i) ≡ droplet (seedOf i) (payloadFor c ws file (seedOf i))
+          → readCheck c ws (printedLine p i) ≡ droplet (seedOf i) (payloadFor c ws file (seedOf i)) 0
       line-read bytes =
           let passes = subst (λ s. screenPasses c (seedWord c ws file s) ≡ true) at-position (passing .passes) in
           ap (readCheck c ws) line-spells

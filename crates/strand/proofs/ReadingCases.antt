@@ -7,12 +7,13 @@ use Prim.Native.Nat.{ℕ, _+_, _*_, _≤_}
 use native.Mathlib.Omega.{arith}
 use borrow.Author.Tests.{eq-eqb, ne-eqb}
 use lib.ListN.{length}
+use Rattle.correction.specs.Correction.{codeword, none, corrected}
 use Rattle.droplet.specs.declared.card.Card.{Card}
 use Rattle.droplet.specs.PoolCard.{strandBytes}
 use Rattle.droplet.specs.Questions.{cardRefusal}
 use Rattle.strand.specs.Letters.{allLetters, lettersWord}
 use Rattle.strand.specs.Screen.{screenPasses}
-use Rattle.strand.specs.ReadCheck.{wordSeed, wordPayload, sumsZero, wordReading, lettersReading, readCheck}
+use Rattle.strand.specs.ReadCheck.{wordSeed, wordPayload, strandReading, wordReading, lettersReading, readCheck}
 use Rattle.strand.specs.ReadCheck.Reading.{droplet, refused}
 use Rattle.strand.specs.Loops.{InRange, IsWord}
 
@@ -26,25 +27,32 @@ strand-fits c h =
 pub word-fits : (c : Card) (word : List ℕ) → IsWord c word → (4 + c .l ≤ length word) × (length word ≤ 72)
 word-fits c word h = rw (h .long) (strand-fits c (h .card))
 
--- ---- 11 to 13
+-- ---- 11
 
 module _ (c : Card) (word : List ℕ) where
-  pub case-11 : sumsZero c word ≡ false → wordReading c word ≡ refused 11
+  pub case-11 : corrected (c .r) word ≡ none → wordReading c word ≡ refused 11
   unfolding wordReading
   case-11 e = rw e
 
-  pub case-12 : sumsZero c word ≡ true → wordSeed word ≡ 0 → wordReading c word ≡ refused 12
+  pub case-corrected : (v : List ℕ) (k : ℕ) → corrected (c .r) word ≡ codeword v k → wordReading c word ≡ strandReading c v k
   unfolding wordReading
-  case-12 e s = rw (e, eq-eqb _ _ s)
+  case-corrected v k e = rw e
 
-  pub case-13 : sumsZero c word ≡ true → (wordSeed word ≡ 0 → ⊥) → screenPasses c word ≡ false → wordReading c word ≡ refused 13
-  unfolding wordReading
-  case-13 e s p = rw (e, ne-eqb _ _ s, p)
+-- ---- 12 and 13
 
-  pub case-droplet : sumsZero c word ≡ true → (wordSeed word ≡ 0 → ⊥) → screenPasses c word ≡ true
-      → wordReading c word ≡ droplet (wordSeed word) (wordPayload c word)
-  unfolding wordReading
-  case-droplet e s p = rw (e, ne-eqb _ _ s, p)
+module _ (c : Card) (word : List ℕ) (k : ℕ) where
+  pub case-12 : wordSeed word ≡ 0 → strandReading c word k ≡ refused 12
+  unfolding strandReading
+  case-12 s = rw (eq-eqb _ _ s)
+
+  pub case-13 : (wordSeed word ≡ 0 → ⊥) → screenPasses c word ≡ false → strandReading c word k ≡ refused 13
+  unfolding strandReading
+  case-13 s p = rw (ne-eqb _ _ s, p)
+
+  pub case-droplet : (wordSeed word ≡ 0 → ⊥) → screenPasses c word ≡ true
+      → strandReading c word k ≡ droplet (wordSeed word) (wordPayload c word) k
+  unfolding strandReading
+  case-droplet s p = rw (ne-eqb _ _ s, p)
 
 -- ---- 9 and 10
 

@@ -1,5 +1,4 @@
 -- Every strand that the writer writes is accepted by the read check under the same card, with its seed and payload. Assumes nothing.
-use mathlib.Core.Path.{refl}
 use mathlib.Core.Logic.{inl, inr}
 use Prim.Native.Nat.{zero, suc}
 use Rattle.field.specs.Generator.{seedAfter, seedsFrom}
@@ -12,20 +11,19 @@ use Rattle.strand.specs.Screen.{screenPasses}
 use Rattle.strand.specs.Writer.{seedWord}
 use Rattle.strand.specs.WriterRuns.{seedsWith}
 use Rattle.strand.specs.RoundTrip.{StrandsReadBack, RunsReadBack}
-use Rattle.strand.proofs.LegalStrands.{accepts-exactly}
+use Rattle.strand.proofs.NearReads.{clean-accepted}
 
 pub strands-read-back : StrandsReadBack
 unfolding seedWord
 strands-read-back c ws file seed legal bytes s p =
     let set = segmentsOf ws (segmentCount c) seed in
-    accepts-exactly c ws _ seed _ .1 (record {
+    clean-accepted c ws seed _ (record {
       card = legal;
       nonzero = s .0;
       fits = s .1;
       size = payload-length (c .l) file set;
       bytes = payload-bytes (c .l) file set bytes;
       screened = p;
-      letters = refl;
     })
 
 pub runs-read-back : RunsReadBack

@@ -18,8 +18,12 @@ pub data CAnswer : Type 0 where
   handed : ℕ → List ℕ → CAnswer
 
 -- "For an accepted read it writes the seed and the L payload bytes into the buffer's first 4 + L bytes, leaves the others as
--- they were and returns 0. Otherwise it returns the refusal number"; 16: "buffer at least 4 + L bytes?"
+-- they were and returns 0. Otherwise it returns the refusal number"; 16: "buffer at least 4 + L bytes?". For a read that was corrected
+-- "the C form still returns 0" (document 02, Item 3)
+unfoldable pub dropletOver : ℕ → List ℕ → ℕ → List ℕ → CAnswer
+dropletOver L out seed payload =
+    cond (leb (4 + L) (length out)) (handed 0 (toBigEndian seed ++ (payload ++ drop (4 + L) out))) (handed 16 out)
+
 unfoldable pub handedOver : ℕ → List ℕ → Reading → CAnswer
 handedOver L out (refused n) = handed n out
-handedOver L out (droplet seed payload) =
-    cond (leb (4 + L) (length out)) (handed 0 (toBigEndian seed ++ (payload ++ drop (4 + L) out))) (handed 16 out)
+handedOver L out (droplet seed payload k) = dropletOver L out seed payload

@@ -1,4 +1,5 @@
--- What the writer writes, the read check gives back: seed and payload of every strand, under the same card (demand 2). Assumes nothing.
+-- What the writer writes, the read check gives back: seed and payload of every strand, no byte corrected, under the same card (demand 2).
+-- Assumes nothing.
 use mathlib.Core.Path.{_≡_}
 use mathlib.Core.Bool.{true}
 use mathlib.Core.List.{List}
@@ -16,7 +17,7 @@ use Rattle.strand.specs.WriterRuns.{passingFirst}
 -- the strand of a seed is read back as its droplet
 abbrev pub ReadBack : Card → List ℕ → List ℕ → ℕ → Type 0
 ReadBack c weights file seed =
-    readCheck c weights (wordLetters (seedWord c weights file seed)) ≡ droplet seed (payloadFor c weights file seed)
+    readCheck c weights (wordLetters (seedWord c weights file seed)) ≡ droplet seed (payloadFor c weights file seed) 0
 
 -- so is every strand that passes the screen
 abbrev pub StrandsReadBack : Type 0

@@ -2,8 +2,7 @@ ghost use mathlib.Core.Path.{_≡_};
 ghost use Prim.Native.Nat.{_≤_};
 ghost use lib.ListN.{length, take};
 ghost use Rattle.strand.specs.ReadCheck.{readCheck};
-ghost use Rattle.strand.specs.ReadCheck.Reading.{droplet};
-ghost use Rattle.strand.specs.CForm.{handedCard, handedOver};
+ghost use Rattle.strand.specs.CForm.{handedCard, dropletOver, handedOver};
 ghost use Rattle.strand.specs.CForm.CAnswer.{handed};
 use crate::droplet_bytes;
 use crate::read_check;
@@ -29,7 +28,7 @@ pub fn handed_card(f: u32, l: u8, r: u8, m: u8, lo: u16, hi: u16, dealt: u8, wid
 // Question 16, and then the droplet into the lent buffer.
 fn hand_over(seed: u32, l: usize, payload: &[u8], out: &mut [u8]) -> u32
     requires { ⌜ (l ≤ 64) × (length (now payload) ≡ 64) ⌝ }
-    ensures { λ r. ⌜ handed r (now (out .exit)) ≡ handedOver l (now (out .entry)) (droplet seed (take l (now (payload .entry)))) ⌝ }
+    ensures { λ r. ⌜ handed r (now (out .exit)) ≡ dropletOver l (now (out .entry)) seed (take l (now (payload .entry))) ⌝ }
 {
     if out.len() < 4 + l {
         return 16;

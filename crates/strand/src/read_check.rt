@@ -2,7 +2,7 @@ ghost use mathlib.Core.Path.{_≡_};
 ghost use Prim.Native.Nat.{_*_, _≤_};
 ghost use lib.ListN.{length};
 ghost use Rattle.field.specs.Bytes.{padded};
-ghost use Rattle.strand.specs.ReadCheck.{allZero, wordReading, lettersReading, readCheck, Answers};
+ghost use Rattle.strand.specs.ReadCheck.{strandReading, wordReading, lettersReading, readCheck, Answers};
 ghost use Rattle.strand.specs.ReadCheck.Reading.{refused};
 ghost use Rattle.strand.specs.Loops.{InRange, IsWord};
 use crate::droplet_bytes;
@@ -10,13 +10,14 @@ use crate::letters;
 use crate::limits;
 use crate::limits::Verdict;
 use crate::screen;
+use correction::correct;
+use correction::correct::Correction;
 use droplet::card;
 use droplet::card::Bases;
 use droplet::card::Bytes;
 use droplet::card::Card;
 use droplet::card::PlanAnswer;
 use field::bytes;
-use field::check_bytes;
 
 // What the read check finds in a read: a droplet's seed, or the number of the question that refused it.
 pub enum ReadOutcome {
@@ -24,10 +25,12 @@ pub enum ReadOutcome {
     Refused(u8),
 }
 
-// The outcome with the payload beside it: 64 bytes, those past L being 0; all 0 on a refusal.
+// The outcome with the payload beside it, 64 bytes, those past L being 0, and how many bytes were corrected; all 0 on a refusal. The
+// number comes last: in the outcome it would move the payload to a place from which it is copied more slowly.
 pub struct ReadAnswer {
     pub outcome: ReadOutcome,
     pub payload: [u8; 64],
+    pub corrected: u8,
 }
 
 fn refuse(n: u8) -> ReadAnswer
@@ -36,22 +39,8 @@ fn refuse(n: u8) -> ReadAnswer
     ReadAnswer {
         outcome: ReadOutcome::Refused(n),
         payload: [0u8; 64],
+        corrected: 0,
     }
-}
-
-fn all_zero(sums: [u8; 4]) -> bool
-    ensures { λ r. ⌜ r ≡ allZero sums ⌝ }
-{
-    if sums[0] != 0 {
-        return false;
-    }
-    if sums[1] != 0 {
-        return false;
-    }
-    if sums[2] != 0 {
-        return false;
-    }
-    sums[3] == 0
 }
 
 // A payload as 64 bytes, those past its end being 0.
@@ -64,29 +53,37 @@ fn pad(payload: &[u8]) -> [u8; 64]
     out
 }
 
-// Questions 11 to 13, asked of the word that a read spells.
-fn check_word(card: Card, word: &[u8]) -> ReadAnswer
+// Questions 12 and 13, asked of a codeword in which so many bytes were corrected.
+fn check_codeword(card: Card, word: &[u8], corrected: u8) -> ReadAnswer
+    requires { ⌜ IsWord card (now word) ⌝ }
+    ensures { λ r. ⌜ Answers (strandReading card (now (word .entry)) corrected) r ⌝ }
+{
+    let seed = droplet_bytes::seed_of(word);
+    if seed == 0 {
+        return refuse(12);
+    }
+    let n = card::to_bases(Bytes(word.len()));
+    if let Verdict::Passes = limits::compare(card, screen::measure_of(word), n) {
+        let end = 4 + card.l as usize;
+        let payload = pad(&word[4..end]);
+        return ReadAnswer {
+            outcome: ReadOutcome::Droplet(seed),
+            payload,
+            corrected,
+        };
+    }
+    refuse(13)
+}
+
+// Question 11, asked of the word that a read spells, which is corrected on the way; and then 12 and 13.
+fn check_word(card: Card, word: &mut [u8]) -> ReadAnswer
     requires { ⌜ IsWord card (now word) ⌝ }
     ensures { λ r. ⌜ Answers (wordReading card (now (word .entry))) r ⌝ }
 {
-    let sums = check_bytes::syndromes_of(card.r, word);
-    if all_zero(sums) {
-        let seed = droplet_bytes::seed_of(word);
-        if seed == 0 {
-            return refuse(12);
-        }
-        let n = card::to_bases(Bytes(word.len()));
-        if let Verdict::Passes = limits::compare(card, screen::measure_of(word), n) {
-            let end = 4 + card.l as usize;
-            let payload = pad(&word[4..end]);
-            return ReadAnswer {
-                outcome: ReadOutcome::Droplet(seed),
-                payload,
-            };
-        }
-        return refuse(13);
-    }
-    refuse(11)
+    let Correction::Done(corrected) = correct::correct_word(card.r, &mut *word) else {
+        return refuse(11);
+    };
+    check_codeword(card, word, corrected)
 }
 
 // Question 10, asked of a strand's length of letters, and then 11 to 13. The word that they spell is written to `word`.

@@ -41,7 +41,7 @@ fn write_cases(count: u64, folder: &Path) -> Result<(), Error> {
         let n = &case.numbers;
         cases += &format!("{} {} {} {} {} {}", n.f, n.l, n.r, n.m, n.lo, n.hi);
         cases += &format!(" {} {}", n.dealt, n.width);
-        for bytes in [&n.weights, &case.read, &case.out] {
+        for bytes in [&n.weights, &case.read.letters, &case.out] {
             let none = random.one_of(&["-", "."]);
             cases += &format!(" {}", hex_or(bytes, none));
         }
@@ -62,7 +62,7 @@ fn write_reads(count: u64, folder: &Path) -> Result<(), Error> {
     let mut lines = Vec::new();
     let mut expected = String::new();
     for _ in 0..count {
-        let read = reads::any_read(&mut random, &mut numbers.clone());
+        let read = reads::any_read(&mut random, &mut numbers.clone()).letters;
         if read.contains(&b'\n') {
             continue;
         }

@@ -3,13 +3,13 @@
 use super::cards::{self, Numbers};
 use super::lent::hex;
 use super::random::Random;
-use super::reads;
+use super::reads::{self, Read};
 use super::run::Regions;
-use second::{read_check_c_form, Handed};
+use second::{read_check, read_check_c_form, Handed};
 
 pub struct Case {
     pub numbers: Numbers,
-    pub read: Vec<u8>,
+    pub read: Read,
     /// The lent buffer as it is before the call.
     pub out: Vec<u8>,
 }
@@ -18,6 +18,7 @@ pub struct Case {
 pub const REGIONS: &[&str] = &[
     "answer 16", "out just long enough", "out longer", "16: a byte short", "16: no bytes", "refused with a short out",
     "out NULL", "read NULL", "27: 9 too", "27: 9 to 13 and 16 fine",
+    "mended, out just long enough", "mended, out longer", "16: mended, a byte short", "16: mended, no bytes",
 ];
 
 impl Case {
@@ -41,7 +42,7 @@ impl Case {
     /// The number and the buffer at exit, by the second implementation.
     pub fn expected(&self) -> (u32, Vec<u8>) {
         let mut out = self.out.clone();
-        let answer = read_check_c_form(&self.numbers.handed(), &self.read, &mut out);
+        let answer = read_check_c_form(&self.numbers.handed(), &self.read.letters, &mut out);
         (answer, out)
     }
 
@@ -53,12 +54,25 @@ impl Case {
         regions.note_if(answer == 0 && length > needed, "out longer");
         regions.note_if(answer == 16 && length + 1 == needed, "16: a byte short");
         regions.note_if(answer == 16 && length == 0, "16: no bytes");
+        if let Ok(droplet) = read_check(&self.numbers.handed(), &self.read.letters) {
+            let is_mended = droplet.mended > 0;
+            regions.note_if(
+                is_mended && length == needed,
+                "mended, out just long enough",
+            );
+            regions.note_if(is_mended && length > needed, "mended, out longer");
+            regions.note_if(
+                is_mended && length + 1 == needed,
+                "16: mended, a byte short",
+            );
+            regions.note_if(is_mended && length == 0, "16: mended, no bytes");
+        }
         if answer == 27 {
             let without_field = Handed {
                 dealt: false,
                 ..self.numbers.handed()
             };
-            let rest = read_check_c_form(&without_field, &self.read, &mut self.out.clone());
+            let rest = read_check_c_form(&without_field, &self.read.letters, &mut self.out.clone());
             regions.note_if(rest == 9, "27: 9 too");
             regions.note_if(rest == 0, "27: 9 to 13 and 16 fine");
         }
@@ -69,7 +83,7 @@ impl Case {
     }
 
     pub fn report(&self) -> String {
-        let read = String::from_utf8_lossy(&self.read);
+        let read = String::from_utf8_lossy(&self.read.letters);
         format!(
             "{} read {:?} out {}",
             self.numbers.report(),

@@ -16,3 +16,4 @@ pub mod reads;
 pub mod run;
 pub mod shelves;
 pub mod sizes;
+pub mod wrong_bytes;

@@ -1,12 +1,41 @@
-//! Reads: legal ones, damaged ones, and a screen that a read just passes or just misses.
+//! Reads: legal ones, misread and damaged ones, and a screen that a read just passes or just misses.
 
 use super::cards::Numbers;
 use super::joints::{self, longest_inside, longest_run, through_first, through_second};
 use super::random::Random;
 use super::run::Regions;
+use super::wrong_bytes;
 use second::check_bytes_letters_screen::{
     check_bytes, field_product, letters_of_bytes, strand_bytes,
 };
+use second::mending::mend;
+
+/// A read, and what it was made of.
+pub struct Read {
+    pub letters: Vec<u8>,
+    /// The bytes of the strand as it was printed.
+    pub printed: Vec<u8>,
+    /// Where the check sums are those of a longer word: how many bytes of that stand behind each of its wrong ones, one of
+    /// which at least would be outside the read. There are no more of them than can be mended.
+    pub outside: Vec<usize>,
+}
+
+impl Read {
+    /// The strand of this seed and payload, read as the writer would print it.
+    pub fn of(numbers: &Numbers, seed: u32, payload: &[u8]) -> Read {
+        let printed = strand_bytes(seed, payload, numbers.r);
+        Read {
+            letters: letters_of_bytes(&printed),
+            printed,
+            outside: Vec::new(),
+        }
+    }
+
+    /// The bytes of n legal letters.
+    pub fn bytes(&self) -> Vec<u8> {
+        self.letters.chunks(4).map(byte_of).collect()
+    }
+}
 
 pub fn any_seed(random: &mut Random) -> u32 {
     match random.below(12) {
@@ -44,11 +73,6 @@ fn of_one_kind(random: &mut Random, l: usize) -> (u32, Vec<u8>) {
     let mut byte = || (0..4).fold(0, |byte, _| byte << 2 | random.one_of(&pairs));
     let seed = u32::from_be_bytes([byte(), byte(), byte(), byte()]);
     (seed, (0..l).map(|_| byte()).collect())
-}
-
-/// The read of this seed and payload, as the writer would print it.
-pub fn read_of(numbers: &Numbers, seed: u32, payload: &[u8]) -> Vec<u8> {
-    letters_of_bytes(&strand_bytes(seed, payload, numbers.r))
 }
 
 pub fn gc(read: &[u8]) -> usize {
@@ -105,9 +129,15 @@ pub fn let_miss(random: &mut Random, numbers: &mut Numbers, read: &[u8]) {
     }
 }
 
-/// A read for an accepted card: legal, with seed 0, or damaged in one way or another. May set the card's m, lo and hi.
-pub fn any_read(random: &mut Random, numbers: &mut Numbers) -> Vec<u8> {
+/// A read for an accepted card: legal, with seed 0, misread, or damaged in one way or another. May set the card's m, lo and hi.
+pub fn any_read(random: &mut Random, numbers: &mut Numbers) -> Read {
     let l = usize::from(numbers.l);
+    if random.once_in(16) {
+        let (seed, payload) = joints::any_droplet(random, l, numbers.r);
+        let mut read = Read::of(numbers, seed, &payload);
+        wrong_bytes::misread_at_a_joint(random, numbers, &mut read);
+        return read;
+    }
     let (seed, payload) = match random.below(20) {
         0 => (0, vec![0; l]),
         1 => (0, any_payload(random, l)),
@@ -115,19 +145,21 @@ pub fn any_read(random: &mut Random, numbers: &mut Numbers) -> Vec<u8> {
         3..=5 => joints::any_droplet(random, l, numbers.r),
         _ => (any_seed(random), any_payload(random, l)),
     };
-    let mut read = read_of(numbers, seed, &payload);
+    let mut read = Read::of(numbers, seed, &payload);
     match random.below(8) {
-        0 | 1 => let_miss(random, numbers, &read),
+        0 | 1 => let_miss(random, numbers, &read.letters),
         2 => (),
-        _ => let_pass(random, numbers, &read),
+        _ => let_pass(random, numbers, &read.letters),
     }
-    if random.once_in(3) {
-        damage(random, numbers, &mut read);
+    match random.below(12) {
+        0..=2 => damage(random, numbers, &mut read.letters),
+        3..=7 => wrong_bytes::misread(random, numbers, &mut read),
+        _ => (),
     }
     read
 }
 
-/// One or more damages to letters, lengths or bytes.
+/// One or more damages to letters, lengths or bytes. Some of them are mended.
 pub fn damage(random: &mut Random, numbers: &Numbers, read: &mut Vec<u8>) {
     match random.below(10) {
         0 => change_letters(
@@ -229,8 +261,10 @@ pub const REGIONS: &[&str] = &[
     "seed 1",
 ];
 
-/// Notes what region of questions 9 to 13 the read comes from, under the answer that it had.
-pub fn note(regions: &mut Regions, numbers: &Numbers, read: &[u8], answer: u32) {
+/// Notes what region of questions 9 to 13 the read comes from, under the answer that it had. The screen is that of the mended
+/// strand.
+pub fn note(regions: &mut Regions, numbers: &Numbers, made: &Read, answer: u32) {
+    let read = &made.letters;
     match answer {
         1..=8 | 14 | 27 => (),
         9 => {
@@ -248,18 +282,33 @@ pub fn note(regions: &mut Regions, numbers: &Numbers, read: &[u8], answer: u32) 
                 "10: small letter",
             );
             regions.note_if(bad == [read.len() - 1], "10: the last letter");
+            let strand = letters_of_bytes(&made.printed);
+            let wrong = (0..read.len()).filter(|&i| read[i] != strand[i]);
+            regions.note_if(
+                wrong.eq(bad) && strand.len() == read.len(),
+                "10: the only wrong letter",
+            );
         }
         11 => {
-            let bytes: Vec<u8> = read.chunks(4).map(byte_of).collect();
-            let sums = second::check_bytes_letters_screen::check_sums(&bytes, numbers.r);
+            wrong_bytes::note(regions, numbers, made, answer);
+            let sums = second::check_bytes_letters_screen::check_sums(&made.bytes(), numbers.r);
             let last = usize::from(numbers.r) - 1;
             regions.note_if(
                 sums[..last].iter().all(|&sum| sum == 0),
                 "11: only the last check sum",
             );
         }
-        12 => (),
-        _ => note_screen(regions, numbers, read, answer != 13),
+        12 => wrong_bytes::note(regions, numbers, made, answer),
+        _ => {
+            wrong_bytes::note(regions, numbers, made, answer);
+            let mended = mend(&made.bytes(), numbers.r).expect("question 11 said yes");
+            note_screen(
+                regions,
+                numbers,
+                &letters_of_bytes(&mended.word),
+                answer != 13,
+            );
+        }
     }
 }
 

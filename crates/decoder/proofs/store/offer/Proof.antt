@@ -6,7 +6,7 @@ use native.Mathlib.Omega.{arith}
 use borrow.Author.Needs.{needs}
 use lib.ListN.{length, take, length-take}
 use Rattle.strand.specs.ReadCheck.{Reading, refused, lettersReading}
-use Rattle.strand.proofs.LegalStrands.{letters-payload}
+use Rattle.strand.proofs.LetThrough.{letters-payload}
 use Rattle.strand.proofs.ReadAnswers.{Accepts, accepts, refuses}
 use Rattle.decoder.specs.declared.store.StoreAnswer.the-variants.{Refused}
 use Rattle.decoder.specs.Store.{storeReading}
@@ -23,7 +23,9 @@ handed-on L buffer count reading n e = rw e (record { says = refl; leaves = refl
 legal : (c : tie.After-known-told) → (let check = c .before .before .before .before in
     let args = check .before .before .before .args in
     Accepts (args .card .l) (lettersReading (args .card) (args .read .now)) (c .before .outcome .given .0 .0) (check .check-strand .result .payload))
-legal c = accepts _ _ _ (c .before .before .before .before .check-strand .ensures) (letters-payload _ _) _ (c .before .outcome .given .1)
+legal c =
+    let check = c .before .before .before .before in
+    accepts _ _ _ (check .check-strand .ensures) (λ s p k e. letters-payload _ _ s p k e (check .before .before .before .pre .1)) _ (c .before .outcome .given .1)
 
 -- of its payload array the first L bytes are lent
 size : (c : tie.After-known-told) → (let check = c .before .before .before .before in
@@ -55,6 +57,7 @@ store-droplet-requires c κs =
     rw (size told) (told .before .before .before .before .before .before .before .pre .0)
 
 returns-2 : tie.Need-returns-2
+unfolding storeReading
 returns-2 c =
     let told = c .before .before .before .before .before .before in
     rw (legal told .accepted, ← legal told .first) (rw (size told) at (c .before .before .store-droplet .ensures))

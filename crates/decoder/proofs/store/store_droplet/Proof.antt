@@ -8,9 +8,8 @@ use borrow.Author.Needs.{needs}
 use lib.ListN.{length, drop, length-drop}
 use lib.Seq.{take-all}
 use Rattle.field.specs.Bytes.{sameBytes}
-use Rattle.strand.specs.ReadCheck.{droplet}
 use Rattle.decoder.specs.declared.store.Place.the-variants.{At}
-use Rattle.decoder.specs.Store.{recordPayload, Found, found, absent, findSeed, records, kept, repeat, refusal, appended, compared, storeReading}
+use Rattle.decoder.specs.Store.{recordPayload, Found, found, absent, findSeed, records, kept, repeat, refusal, appended, compared, storeRecord}
 use Rattle.decoder.specs.StoreLoops.{Sought}
 use Rattle.decoder.proofs.BufferParts.{rest-whole}
 use Rattle.decoder.proofs.RecordBytes.{payload-size}
@@ -23,13 +22,13 @@ module _ (L : ℕ) (buffer : List ℕ) (count seed : ℕ) (payload : List ℕ) w
   first = findSeed seed (records L count buffer)
 
   new : first ≡ absent
-      → storeReading L buffer count (droplet seed payload) ≡ appended L buffer count (record { seed = seed; payload = payload })
-  unfolding storeReading compared
+      → storeRecord L buffer count (record { seed = seed; payload = payload }) ≡ appended L buffer count (record { seed = seed; payload = payload })
+  unfolding storeRecord compared
   new e = rw e
 
   known : (p : List ℕ) (same : Bool) → first ≡ found p → same ≡ sameBytes p payload
-      → storeReading L buffer count (droplet seed payload) ≡ cond same (kept (repeat count) buffer) (kept (refusal 15) buffer)
-  unfolding storeReading compared
+      → storeRecord L buffer count (record { seed = seed; payload = payload }) ≡ cond same (kept (repeat count) buffer) (kept (refusal 15) buffer)
+  unfolding storeRecord compared
   known p same e f = rw (e, f)
 
 -- where the search found a record
@@ -72,7 +71,7 @@ starts-with-requires : tie.Need-starts-with-requires
 starts-with-requires c κs = omega (arith, stored-size c)
 
 said : (c : tie.After-starts-with) → (let args = c .before .before .before .before .before .before .before .before .before .before .before .args in
-    storeReading (length (args .payload .now)) (args .store .now) (args .count) (droplet (args .seed) (args .payload .now))
+    storeRecord (length (args .payload .now)) (args .store .now) (args .count) (record { seed = args .seed; payload = args .payload .now })
     ≡ cond (c .starts-with .result) (kept (repeat (args .count)) (args .store .now)) (kept (refusal 15) (args .store .now)))
 said c =
     let p = c .before in

@@ -6,7 +6,7 @@ use native.Mathlib.Nat.{mul-one, zero-mul}
 use native.Mathlib.Omega.{arith}
 use borrow.Author.Needs.{needs}
 use Rattle.field.specs.Generator.{seedAfter, iterate}
-use Rattle.field.specs.SeedProducts.{product}
+use Rattle.field.specs.Products.{seedProduct}
 use Rattle.field.proofs.SeedPowers.{bitRaised, x-is, squared, bit-lt, jump-turn}
 use Rattle.split.proofs.seed_position.jump.Statement.{statement}
 use Rattle.split.proofs.seed_position.jump.Tie as tie
@@ -24,14 +24,14 @@ abbrev μ-loop : tie.MeasureT-loop
 μ-loop start steps seed₀ bits₀ power₀ seed bits power = bits
 
 -- the seed, by the lowest bit
-taken : (seed bits power : ℕ) → bits % 2 ≡ 1 → product seed power ≡ bitRaised (bits % 2) power seed
+taken : (seed bits power : ℕ) → bits % 2 ≡ 1 → seedProduct seed power ≡ bitRaised (bits % 2) power seed
 taken seed bits power e = rw e
 
 passed : (seed bits power : ℕ) → bits % 2 ≡ 0 → seed ≡ bitRaised (bits % 2) power seed
 passed seed bits power e = rw e
 
 turn : (start steps seed seed′ bits power power′ : ℕ) → Jumping start steps seed bits power → seed′ ≡ bitRaised (bits % 2) power seed
-    → power′ ≡ product power power → Jumping start steps seed′ (bits / 2) power′
+    → power′ ≡ seedProduct power power → Jumping start steps seed′ (bits / 2) power′
 turn start steps seed seed′ bits power power′ now e f =
     let p = now .span in
     record {

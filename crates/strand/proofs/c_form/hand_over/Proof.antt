@@ -4,13 +4,13 @@ use native.Mathlib.Omega.{arith}
 use borrow.Author.Tests.{le-leb, lt-leb}
 use lib.ListN.{length, take}
 use lib.Seq.{length-take-le}
-use Rattle.strand.specs.CForm.{handedOver}
+use Rattle.strand.specs.CForm.{dropletOver}
 use borrow.Author.Needs.{needs}
 use Rattle.strand.proofs.c_form.hand_over.Statement.{statement}
 use Rattle.strand.proofs.c_form.hand_over.Tie as tie
 
 returns : tie.Need-returns
-unfolding handedOver
+unfolding dropletOver
 returns c = simp (lt-leb _ _ (c .if1 .taken))
 
 slice-aggregate-put-droplet : tie.Need-slice-aggregate-put-droplet
@@ -23,7 +23,7 @@ put-droplet-requires c κs =
     omega (arith, n, c .before .before .if1 .left)
 
 returns-2 : tie.Need-returns-2
-unfolding handedOver
+unfolding dropletOver
 returns-2 c =
     let q = c .before .before in
     let e = q .before .before .before in

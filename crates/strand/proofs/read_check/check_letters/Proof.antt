@@ -37,11 +37,12 @@ check-word-requires c κs =
 
 returns : tie.Need-returns
 returns c =
-    let r = c .before .before .before .before .before in
+    let call = c .before .before in
+    let r = call .before .before .before .before .before in
     let s = r .before .before .before .before in
-    let taken = c .before .before .if1 .taken in
+    let taken = call .before .before .if1 .taken in
     spelled (s .args .card) (s .args .word .now) (s .args .read .now) (s .pre .0) (s .pre .1) _ _ (sym (r .read-letters .ensures .0) ∙ taken)
-    (r .read-letters .ensures .1 taken) (c .check-word .ensures)
+    (r .read-letters .ensures .1 taken) (call .check-word .ensures)
 
 returns-2 : tie.Need-returns-2
 returns-2 c =

@@ -1,113 +1,76 @@
--- `check_word` meets its contract: each way out is a case of the definition. Assumes nothing.
-use mathlib.Core.Path.{_≡_, sym, ap, _∙_}
-use mathlib.Core.Bool.{Bool}
+-- `check_word` meets its contract: there is no codeword near the word, or the questions are asked of it. Assumes nothing.
+use mathlib.Core.Path.{_≡_, _∙_}
 use mathlib.Core.List.{List}
-use Prim.Native.Nat.{ℕ, _+_, _-_}
+use Prim.Native.Nat.{ℕ}
 use native.Mathlib.Omega.{arith}
-use lib.ListN.{take, drop}
-use Rattle.field.specs.Bytes.{padded}
-use Rattle.field.specs.CheckBytes.{syndromes}
+use Rattle.field.specs.Bytes.{IsByte, AllBytes}
+use Rattle.field.proofs.ByteLists.{all-from}
+use Rattle.field.proofs.Syndromes.{checks-bounds}
+use Rattle.correction.specs.declared.correct.Correction.{Correction}
+use Rattle.correction.specs.declared.correct.Correction.the-variants.{Done, Hopeless}
+use Rattle.correction.specs.Correction.{Corrects}
+use Rattle.correction.proofs.CorrectionAnswers.{corrected-to, not-corrected, same-length}
 use Rattle.droplet.specs.declared.card.Card.{Card}
-use Rattle.strand.specs.declared.read_check.ReadOutcome.the-variants.{Droplet}
-use Rattle.strand.specs.ReadCheck.{Answers, allZero, sumsZero, wordSeed, wordPayload, wordReading}
-use Rattle.strand.specs.ReadCheck.Reading.{droplet}
-use Rattle.strand.specs.Screen.{wordVerdict}
-use Rattle.strand.proofs.Screening.{comparable, compared, not-passes, passes, fails}
-use Rattle.strand.proofs.ReadingCases.{word-fits, case-11, case-12, case-13, case-droplet}
+use Rattle.strand.specs.declared.read_check.ReadAnswer.{ReadAnswer}
+use Rattle.strand.specs.ReadCheck.{Reading, Answers, strandReading, wordReading}
+use Rattle.strand.specs.Loops.{IsWord}
+use Rattle.strand.proofs.ReadingCases.{word-fits, case-11, case-corrected}
 use borrow.Author.Needs.{needs}
 use Rattle.strand.proofs.read_check.check_word.Statement.{statement}
 use Rattle.strand.proofs.read_check.check_word.Tie as tie
 
--- what the code found of the sums is what question 11 asks
-sums : (card : Card) (word s : List ℕ) (flag b : Bool) → flag ≡ allZero s → s ≡ syndromes (card .r) word → flag ≡ b → sumsZero card word ≡ b
-unfolding sumsZero
-sums card word s flag b e f g = ap allZero (sym f) ∙ sym e ∙ g
+module _ (card : Card) (read : List ℕ) (is : IsWord card read) (bytes : AllBytes read) (r : Correction) (word : List ℕ) (corrects : Corrects (card .r) read r word) where
+  -- the word that the correction left is as long as the strand
+  still-word : IsWord card word
+  still-word =
+      let few = checks-bounds (is .card .check-count) .1 in
+      let long = same-length (card .r) read r word corrects few (omega (arith, word-fits card read is .1)) bytes in
+      record { card = is .card; long = long ∙ is .long }
 
-accepted : (card : Card) (word payload : List ℕ) (seed : ℕ) → wordReading card word ≡ droplet (wordSeed word) (wordPayload card word)
-    → seed ≡ wordSeed word → payload ≡ padded 64 (take (4 + card .l - 4) (drop 4 word))
-    → Answers (wordReading card word) (record { outcome = Droplet seed; payload = payload })
-accepted card word payload seed e s p =
-    let n : 4 + card .l - 4 ≡ card .l = omega arith in
-    rw e (record { says = ap Droplet s; holds = rw n at p })
+  refused : (a : ReadAnswer) → r ≡ Hopeless → Answers (Reading.refused 11) a → Answers (wordReading card read) a
+  refused a e answers = rw (case-11 card read (not-corrected (card .r) read r word corrects e)) answers
 
-syndromes-of-requires : tie.Need-syndromes-of-requires
-syndromes-of-requires c κs = c .before .pre .card .check-count
+  asked : (a : ReadAnswer) (k : ℕ) → r ≡ Done k → Answers (strandReading card word k) a → Answers (wordReading card read) a
+  asked a k e answers = rw (case-corrected card read word k (corrected-to (card .r) read r word corrects k e)) answers
 
-seed-of-requires : tie.Need-seed-of-requires
-seed-of-requires c κs = omega (arith, word-fits _ _ (c .before .before .before .before .pre) .0)
+bytes : (c : tie.After-slice-known) → AllBytes (c .before .args .word .now)
+bytes c = all-from IsByte (c .before .args .word .now) 0 (λ i h. omega (arith, c .slice-known .given i))
+
+correct-word-requires : tie.Need-correct-word-requires
+correct-word-requires c κs =
+    let is = c .before .before .pre in
+    (is .card .check-count, omega (arith, word-fits _ _ is .1))
 
 returns : tie.Need-returns
 returns c =
-    let z = c .before .before .before in
-    let a = z .before .before .before .before .args in
-    rw (case-12 (a .card) (a .word .now) (sums (a .card) (a .word .now) _ _ _ (z .before .all-zero .ensures) (z .before .before .syndromes-of .ensures) (z .if1 .taken))
-    (sym (c .before .before .seed-of .ensures) ∙ c .before .if2 .taken)) (c .refuse .ensures)
+    let told = c .before in
+    let call = told .before .before .before .before in
+    let start = call .before .before .before in
+    refused (start .args .card) (start .args .word .now) (start .pre) (bytes (call .before .before)) _ _ (call .correct-word .ensures) _ (told .enum-told .given .1) (c .refuse .ensures)
 
-to-bases-requires : tie.Need-to-bases-requires
-to-bases-requires c κs = omega (arith, word-fits _ _ (c .before .before .before .before .before .before .pre) .1)
-
-measure-of-requires : tie.Need-measure-of-requires
-measure-of-requires c κs = word-fits _ _ (c .before .before .before .before .before .before .before .pre) .1
-
-compare-requires : tie.Need-compare-requires
-compare-requires c κs =
-    let s = c .before .before .before .before .before .before .before .before in
-    comparable (s .args .word .now) (c .measure-of .ensures) (c .before .to-bases .ensures) (word-fits _ _ (s .pre) .1)
-
--- what the code compared is what question 13 asks
-screened : (c : tie.After-compare) → (let a = c .before .before .before .before .before .before .before .before .before .args in c .compare .result ≡ wordVerdict (a .card) (a .word .now))
-screened c = compared _ (c .before .measure-of .ensures) (c .before .before .to-bases .ensures) _ (c .compare .ensures)
-
-part-pad-end : tie.Need-part-pad-end
-part-pad-end c = omega (arith, word-fits _ _ (c .before .before .before .before .before .before .before .before .before .before .before .before .pre) .0)
+check-codeword-requires : tie.Need-check-codeword-requires
+check-codeword-requires c κs =
+    let call = c .before .before .before .before .before .before in
+    let start = call .before .before .before in
+    still-word (start .args .card) (start .args .word .now) (start .pre) (bytes (call .before .before)) _ _ (call .correct-word .ensures)
 
 returns-2 : tie.Need-returns-2
 returns-2 c =
-    let told = c .before .before .before in
-    let v = told .before .before in
-    let p = v .before .before .before in
-    let z = p .before .before in
-    let a = z .before .before .before .before .args in
-    accepted (a .card) (a .word .now) (c .pad .result) _
-    (case-droplet (a .card) (a .word .now) (sums (a .card) (a .word .now) _ _ _ (z .before .all-zero .ensures) (z .before .before .syndromes-of .ensures) (z .if1 .taken))
-    (λ s. p .if2 .left (p .before .seed-of .ensures ∙ s)) (passes _ _ (screened v) (told .enum-told .given .1))) (omega (arith, p .before .seed-of .ensures)) (c .pad .ensures)
-
-returns-3 : tie.Need-returns-3
-returns-3 c =
-    let v = c .before .before in
-    let p = v .before .before .before in
-    let z = p .before .before in
-    let a = z .before .before .before .before .args in
-    rw (case-13 (a .card) (a .word .now) (sums (a .card) (a .word .now) _ _ _ (z .before .all-zero .ensures) (z .before .before .syndromes-of .ensures) (z .if1 .taken))
-    (λ s. p .if2 .left (p .before .seed-of .ensures ∙ s)) (fails _ _ (screened v) (not-passes (v .compare .result) (λ e. rw e at (c .before .match .keys2))))) (c .refuse2 .ensures)
-
-returns-4 : tie.Need-returns-4
-returns-4 c =
-    let z = c .before in
-    let a = z .before .before .before .before .args in
-    rw (case-11 (a .card) (a .word .now) (sums (a .card) (a .word .now) _ _ _ (z .before .all-zero .ensures) (z .before .before .syndromes-of .ensures) (z .if1 .left))) (c .refuse3 .ensures)
+    let call = c .before .before .before .before .before .before .before in
+    let start = call .before .before .before in
+    asked (start .args .card) (start .args .word .now) (start .pre) (bytes (call .before .before)) _ _ (call .correct-word .ensures) _ _
+    (c .before .before .before .corrected .given .1) (c .check-codeword .ensures)
 
 pub check-word-spec : {M : Type 1} → statement M
 check-word-spec =
     tie.close
     (tie.spec
-    syndromes-of-requires
+    correct-word-requires
+    (λ c. search needs)
+    (λ c. search needs)
     (λ c κs. search needs)
-    seed-of-requires
-    (λ c κs. search needs)
+    (λ c. search needs)
     returns
-    to-bases-requires
-    measure-of-requires
-    compare-requires
+    check-codeword-requires
     (λ c. search needs)
-    (λ c. search needs)
-    (λ c. search needs)
-    (λ c. search needs)
-    (λ c. search needs)
-    part-pad-end
-    (λ c κs. search needs)
-    returns-2
-    (λ c κs. search needs)
-    returns-3
-    (λ c κs. search needs)
-    returns-4)
+    returns-2)

@@ -12,7 +12,7 @@ use Rattle.field.proofs.ByteLists.{take-padded, padded-length}
 use Rattle.field.proofs.Parity.{parity-length}
 use Rattle.droplet.specs.declared.card.Card.{Card}
 use Rattle.droplet.specs.PoolCard.{strandBytes}
-use Rattle.droplet.proofs.LegalCard.{checks-bounds}
+use Rattle.field.proofs.Syndromes.{checks-bounds}
 use Rattle.strand.specs.ReadCheck.{strandWord}
 use borrow.Author.Needs.{needs}
 use Rattle.strand.proofs.writer.fill_word.Statement.{statement}

@@ -7,10 +7,10 @@ use borrow.Author.Tests.{eq-eqb, ne-eqb}
 use lib.Dec.{eqb}
 use lib.ListN.{length, getD}
 use Rattle.field.proofs.ByteLists.{four}
-use Rattle.strand.specs.ReadCheck.{allZero}
+use Rattle.correction.specs.Correction.{allZero}
 use borrow.Author.Needs.{needs}
-use Rattle.strand.proofs.read_check.all_zero.Statement.{statement}
-use Rattle.strand.proofs.read_check.all_zero.Tie as tie
+use Rattle.correction.proofs.correct.all_zero.Statement.{statement}
+use Rattle.correction.proofs.correct.all_zero.Tie as tie
 
 last : (a b c d : Bool) → (a && (b && (c && (d && true)))) ≡ (a && (b && (c && d)))
 last false b c d = refl

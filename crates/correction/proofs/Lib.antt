@@ -1,0 +1,14 @@
+pub mod RootPowers
+pub mod ErrorValues
+pub mod Distances
+pub mod AtMostOne
+pub mod Codewords
+pub mod ExactCorrection
+pub mod ErrorShapes
+pub mod SquareTerm
+pub mod ChangedBytes
+pub mod ErrorPlaces
+pub mod PlaceTests
+pub mod CorrectionCases
+pub mod CorrectionAnswers
+pub mod Examples
