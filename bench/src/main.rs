@@ -175,6 +175,26 @@ fn compare_checks(card: Card, weights: &[u8], reads: &[Vec<u8>]) {
     }
 }
 
+/// How many of the reads are accepted as other droplets than those of the strands that they are of.
+fn mistaken(
+    card: Card,
+    weights: &[u8],
+    text: &[u8],
+    line: usize,
+    picked: &[usize],
+    reads: &[Vec<u8>],
+) -> usize {
+    let (mut ours, mut theirs) = (vec![0u8; 72], vec![0u8; 72]);
+    let mut count = 0;
+    for (&i, read) in picked.iter().zip(reads) {
+        let strand = &text[i * line..i * line + line - 1];
+        assert_eq!(archive::check_read(card, weights, strand, &mut ours), 0);
+        let accepted = archive::check_read(card, weights, read, &mut theirs) == 0;
+        count += usize::from(accepted && ours != theirs);
+    }
+    count
+}
+
 /// The times of both checks for all reads, and how many are legal.
 fn race_checks(
     rounds: usize,
@@ -352,9 +372,13 @@ fn run(job: &Job) -> Vec<Line> {
     let (picked, reads) = damaged_reads(&out_a, line, strands, job.reads, &mut random);
     compare_checks(card, &weights, &reads);
     let ((proved, rust), legal) = race_checks(job.rounds, card, &weights, &reads);
+    let mistaken = mistaken(card, &weights, &out_a, line, &picked, &reads);
     lines.push(Line {
         phase: "check",
-        what: format!("{} reads, {legal} legal", reads.len()),
+        what: format!(
+            "{} reads, {legal} legal, {mistaken} taken for other strands",
+            reads.len()
+        ),
         proved,
         rust,
     });

@@ -54,7 +54,7 @@ lettersReading c read =
 unfoldable pub readCheck : Card → List ℕ → List ℕ → Reading
 readCheck c weights read = cond (eqb (cardRefusal c weights) 0) (lettersReading c read) (refused (cardRefusal c weights))
 
--- what the code's answer holds: the outcome by its cases, and "a read check's payload is 64 bytes, those past L being 0"
+-- what the code's answer holds: the outcome by its cases, "a read check's payload is 64 bytes, those past L being 0", and the number
 abbrev pub outcomeOf : Reading → ReadOutcome
 outcomeOf (droplet seed payload k) = outcome.Droplet seed
 outcomeOf (refused n) = outcome.Refused n
