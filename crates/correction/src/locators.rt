@@ -1,6 +1,6 @@
 // Where the wrong bytes of a word are, and what is wrong with them, from its syndromes. A place is counted from the last byte.
 ghost use mathlib.Core.Path.{_≡_};
-ghost use Prim.Native.Nat.{_<_, _≤_};
+ghost use Prim.Native.Nat.{ℕ, _*_, _<_, _≤_};
 ghost use lib.Bits.{bitXor};
 ghost use Rattle.field.specs.Bytes.{AllBytes};
 ghost use Rattle.field.specs.CheckBytes.{timesPower};
@@ -62,8 +62,23 @@ fn times_power(k: usize, x: u8) -> u8
     y
 }
 
-// The byte which, at both the places `p` and `q`, makes the sum `c`: the powers of the root are tried for it one after the other. All 255 are
-// never tried in vain.
+// The inverse of a byte that is a power of the root, as every byte but 0 is: its 254th power, for the 255th is 1.
+fn inverse_of(x: u8) -> u8
+    ensures { λ r. ⌜ ((k : ℕ) → x ≡ timesPower k 1 → r ≡ timesPower (254 * k) 1) ⌝ }
+{
+    let two = product_of(x, x);
+    let three = product_of(two, x);
+    let six = product_of(three, three);
+    let twelve = product_of(six, six);
+    let fifteen = product_of(twelve, three);
+    let thirty = product_of(fifteen, fifteen);
+    let sixty = product_of(thirty, thirty);
+    let twice_sixty = product_of(sixty, sixty);
+    let four_times_sixty = product_of(twice_sixty, twice_sixty);
+    product_of(product_of(four_times_sixty, twelve), two)
+}
+
+// The byte which, at both the places `p` and `q`, makes the sum `c`.
 pub fn error_value(p: usize, q: usize, c: u8) -> u8
     requires { ⌜ (q < p) × (p < 255) ⌝ }
     ensures { λ r. ⌜ bitXor (timesPower p r) (timesPower q r) ≡ c ⌝ }
@@ -71,18 +86,7 @@ pub fn error_value(p: usize, q: usize, c: u8) -> u8
     if c == 0 {
         return 0;
     }
-    let mut y = times_power(p, 1) ^ times_power(q, 1);
-    let mut f: u8 = 1;
-    let mut k: usize = 0;
-    while k < 255 {
-        if y == c {
-            return f;
-        }
-        y = times_root(y);
-        f = times_root(f);
-        k += 1;
-    }
-    0
+    product_of(c, inverse_of(times_power(p, 1) ^ times_power(q, 1)))
 }
 
 // Two products, XORed.
