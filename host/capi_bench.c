@@ -2,22 +2,25 @@
  * stand there or follow from its rules: reads card P and cuts it again, writes strands of file Q, checks and stores the reads of
  * seeds 2, 1, 3, and restores. On the way it has calls refused, reads mended (document 02, Item 3), and runs document 02's example of
  * runs over the joints (Item 1) and the header's examples of dropped strands (Item 12), of a file of seven bytes, dealt by W = 3 (Item
- * 14), and of positions of the seed schedule, with a job that two writers share (Item 7). Lent buffers and answers end in bytes that
- * must survive, but in that job and the one with a dealt file, and all of them must survive a refusal. Returns 1 if anything differs.
+ * 14), of positions of the seed schedule, with a job that two writers share (Item 7), and of clean reads over mended ones (Item 5).
+ * Lent buffers and answers end in bytes that must survive, but in the job of two writers and the one with a dealt file, and all of them
+ * must survive a refusal. Returns 1 if anything differs.
  *
  *   capi_bench bench.card */
 #include <stdio.h>
 #include <string.h>
 #include "fountain.h"
 
-enum { CANARY = 0xA5, SPARE = 8, N = 28, LINE = N + 1, RECORD = 5, K = 4, D = 2 };
+enum { CANARY = 0xA5, SPARE = 8, N = 28, LINE = N + 1, DROPLET = 5, RECORD = 6, K = 4, D = 2 };
 #define UNSET UINT64_C(0xA5A5A5A5A5A5A5A5)
 
 static const uint8_t Q[4] = {0x1B, 0x27, 0x4E, 0xE4};
 /* the bench reads of seeds 2, 1 and 3 */
 static const char *const READS[3] = {
     "AAAAAAAAAAAAAAAGCGGCGTCCTCTG", "AAAAAAAAAAAAAAACTGCAATCGTCAT", "AAAAAAAAAAAAAAATAGCTCGAACACA"};
-static const uint8_t DROPLETS[3][RECORD] = {{0, 0, 0, 2, 0x69}, {0, 0, 0, 1, 0xE4}, {0, 0, 0, 3, 0x27}};
+static const uint8_t DROPLETS[3][DROPLET] = {{0, 0, 0, 2, 0x69}, {0, 0, 0, 1, 0xE4}, {0, 0, 0, 3, 0x27}};
+/* their records, of clean reads */
+static const uint8_t RECORDS[3][RECORD] = {{0, 0, 0, 2, 0x69, 0}, {0, 0, 0, 1, 0xE4, 0}, {0, 0, 0, 3, 0x27, 0}};
 static int failures;
 
 static void number(const char *what, uint64_t got, uint64_t wanted)
@@ -294,11 +297,11 @@ static void refused_widths(const struct pool *p)
  * restorer gives back 00 00 00 4E, which undealt has 4E in its place 2. */
 static void dealt_job(const struct pool *p)
 {
-    static const uint8_t dealt[K] = {0x1B, 0xE4, 0x27, 0x4E}, droplet[RECORD] = {0, 0, 0, 1, 0x4E};
+    static const uint8_t dealt[K] = {0x1B, 0xE4, 0x27, 0x4E}, record[RECORD] = {0, 0, 0, 1, 0x4E, 0};
     static const uint8_t restored[K] = {0, 0, 0, 0x4E}, restored_marks[K] = {0, 0, 0, 1}, undealt[K] = {0, 0, 0x4E, 0};
     static const uint64_t sheet[3] = {1, 2, 0};
     struct pool job = dealt_by(p, 3);
-    uint8_t file[K], line[LINE], out[RECORD], marks[K], back[K];
+    uint8_t file[K], line[LINE], store[RECORD], marks[K], back[K];
     uint32_t list[D];
     uint64_t a[7];
     job.m = 20;
@@ -307,10 +310,10 @@ static void dealt_job(const struct pool *p)
     bytes("Q dealt", file, dealt, K);
     number("write Q dealt", fountain_write(CARD(&job), file, K, 1, 1, 1, line, LINE, list, D, a), 0);
     number("made of Q dealt", a[1], 1);
-    number("check a dealt strand", fountain_check_read(CARD(&job), line, N, out, RECORD), 0);
-    bytes("the droplet of Q dealt", out, droplet, RECORD);
+    number("store a dealt strand", fountain_store(CARD(&job), store, RECORD, 0, line, N, a), 0);
+    bytes("the record of Q dealt", store, record, RECORD);
     lend(a, sizeof a);
-    number("restore Q dealt", fountain_restore(CARD(&job), out, RECORD, 1, file, K, marks, K, list, D, a), 0);
+    number("restore Q dealt", fountain_restore(CARD(&job), store, RECORD, 1, file, K, marks, K, list, D, a), 0);
     answers("the sheet of Q dealt", a, sheet, 3);
     bytes("the dealt segments", file, restored, K);
     bytes("the dealt marks", marks, restored_marks, K);
@@ -388,17 +391,17 @@ static void write_ends(const struct pool *p)
 static void check_reads(const struct pool *p)
 {
     static const uint8_t all_a[N + 1] = "AAAAAAAAAAAAAAAAAAAAAAAAAAAA";
-    uint8_t out[RECORD + SPARE];
+    uint8_t out[DROPLET + SPARE];
     for (int i = 0; i < 3; i++) {
         const uint8_t *read = (const uint8_t *)READS[i];
         lend(out, sizeof out);
-        number("check: 16", fountain_check_read(CARD(p), read, N, out, RECORD - 1), 16);
+        number("check: 16", fountain_check_read(CARD(p), read, N, out, DROPLET - 1), 16);
         number("check: 9", fountain_check_read(CARD(p), read, N - 1, out, sizeof out), 9);
         number("check: 12", fountain_check_read(CARD(p), all_a, N, out, sizeof out), 12);
         kept("the buffer of a refused read", out, sizeof out);
         number("check", fountain_check_read(CARD(p), read, N, out, sizeof out), 0);
-        bytes("the droplet", out, DROPLETS[i], RECORD);
-        kept("the buffer past the droplet", out + RECORD, SPARE);
+        bytes("the droplet", out, DROPLETS[i], DROPLET);
+        kept("the buffer past the droplet", out + DROPLET, SPARE);
     }
 }
 
@@ -411,7 +414,7 @@ static void joints(const struct pool *p)
     static const uint32_t start = 0x2B9BB8D1;
     static const uint64_t at_4[6] = {0, 1, 1, 0x573771A2, 0, 0}, at_3[6] = {0, 1, 3, 0x5CDDC64D, 2, 0};
     struct pool run_3 = *p, run_4 = *p;
-    uint8_t line[LINE + SPARE], out[RECORD + SPARE];
+    uint8_t line[LINE + SPARE], out[DROPLET + SPARE];
     uint32_t list[D];
     uint64_t a[7];
     run_3.m = 3;
@@ -437,17 +440,15 @@ static void joints(const struct pool *p)
 
 /* Strands of seed 1 misread (document 02, Item 3): with R = 2 one wrong byte is mended, in the seed, the payload or the check bytes,
  * however many of its letters are wrong, and two are refused; with R = 4 none, one and two are mended, and these three are refused. The
- * screen is asked of the mended strand, and a mended seed 0 is refused as 12. A mended read is stored as any other. */
+ * screen is asked of the mended strand, and a mended seed 0 is refused as 12. */
 static void mended(const struct pool *p)
 {
     static const char *const two[4] = {"TTTTAAAAAAAAAAACTGCAATCGTCAT", "AAAAAAAAAAAAAAACTGCTATCGTCAT", "AAAAAAAAAAAAAAACTGCAATCGTCAA",
                                        "TAAAAAAAAAAAAAACTGCAATCGTCAA"};
     static const char *const four[4] = {"AAAAAAAAAAAAAAACTGCAGCCGAAAGAGGCCCGA", "AAAAAAAAAAAAAAACTGCAGCCGAAAGAGGCCCGT",
                                         "TAAAAAAAAAAAAAACTGCAGCCGAAAGAGGCCCGT", "TAAAAAAAAAAAAAACAGCAGCCGAAAGAGGCCCGT"};
-    static const uint64_t accepted[2] = {0, 1}, repeat[2] = {1, 1};
     struct pool r_4 = *p, run_14 = *p;
-    uint8_t out[RECORD + SPARE], store[RECORD + SPARE];
-    uint64_t a[3];
+    uint8_t out[DROPLET + SPARE];
     r_4.R = 4;
     r_4.lo = 0;
     run_14.m = 14;
@@ -455,26 +456,18 @@ static void mended(const struct pool *p)
         lend(out, sizeof out);
         number("a read of the strand, R = 2", fountain_check_read(CARD(p), (const uint8_t *)two[i], N, out, sizeof out), i < 3 ? 0 : 11);
         if (i < 3)
-            bytes("its droplet", out, DROPLETS[1], RECORD);
-        kept("the buffer past it", out + (i < 3 ? RECORD : 0), i < 3 ? SPARE : sizeof out);
+            bytes("its droplet", out, DROPLETS[1], DROPLET);
+        kept("the buffer past it", out + (i < 3 ? DROPLET : 0), i < 3 ? SPARE : sizeof out);
         lend(out, sizeof out);
         number("a read of the strand, R = 4", fountain_check_read(CARD(&r_4), (const uint8_t *)four[i], N + 8, out, sizeof out), i < 3 ? 0 : 11);
         if (i < 3)
-            bytes("its droplet", out, DROPLETS[1], RECORD);
-        kept("the buffer past it", out + (i < 3 ? RECORD : 0), i < 3 ? SPARE : sizeof out);
+            bytes("its droplet", out, DROPLETS[1], DROPLET);
+        kept("the buffer past it", out + (i < 3 ? DROPLET : 0), i < 3 ? SPARE : sizeof out);
     }
     lend(out, sizeof out);
     number("mended to a run of 15", fountain_check_read(CARD(&run_14), (const uint8_t *)two[0], N, out, sizeof out), 13);
     number("mended to seed 0", fountain_check_read(CARD(p), (const uint8_t *)"AAAAAAAAAAAAAAAAAAAAAAAAAAAC", N, out, sizeof out), 12);
     kept("the buffer of a mended strand that is refused", out, sizeof out);
-    lend(store, sizeof store);
-    lend(a, sizeof a);
-    number("store a mended read", fountain_store(CARD(p), store, sizeof store, 0, (const uint8_t *)two[0], N, a), 0);
-    answers("a mended read, accepted", a, accepted, 2);
-    bytes("its record", store, DROPLETS[1], RECORD);
-    kept("the shelf past it", store + RECORD, SPARE);
-    number("store the clean one", fountain_store(CARD(p), store, sizeof store, 1, (const uint8_t *)READS[1], N, a), 0);
-    answers("the clean one, a repeat", a, repeat, 2);
 }
 
 /* One job under the header's three limits, and one that is spent on a strand with both faults (document 02, Item 12). */
@@ -538,7 +531,7 @@ static void split_job(const struct pool *p)
 {
     static const uint32_t start = 0x12345678;
     struct pool tight = *p;
-    uint8_t whole[10 * LINE], parts[10 * LINE], droplets[10][RECORD];
+    uint8_t whole[10 * LINE], parts[10 * LINE], droplets[10][DROPLET];
     uint32_t list[D];
     uint64_t a[6], second[1], tried, next;
     lend(whole, sizeof whole);
@@ -563,7 +556,7 @@ static void split_job(const struct pool *p)
     number("where the second part would go on", a[3], next);
     bytes("the two parts", parts, whole, sizeof whole);
     for (int i = 0; i < 10; i++) {
-        number("check a line", fountain_check_read(CARD(&tight), parts + i * LINE, N, droplets[i], RECORD), 0);
+        number("check a line", fountain_check_read(CARD(&tight), parts + i * LINE, N, droplets[i], DROPLET), 0);
         for (int j = 0; j < i; j++)
             number("a seed printed twice", memcmp(droplets[i], droplets[j], 4) == 0, 0);
     }
@@ -579,33 +572,71 @@ static void store_reads(const struct pool *p, uint8_t *store, size_t store_len)
         lend(a, sizeof a);
         number("store: 9", fountain_store(CARD(p), store, store_len, i, read, N - 1, a), 9);
         number("store: 14", fountain_store(CARD(p), store, store_len, (size_t)-1, read, N, a), 14);
-        number("store: 16", fountain_store(CARD(p), store, i * RECORD + 4, i, read, N, a), 16);
+        number("store: 16", fountain_store(CARD(p), store, (i + 1) * RECORD - 1, i, read, N, a), 16);
         kept("the answer of a refused read", a, sizeof a);
         kept("the shelf past its records", store + i * RECORD, store_len - i * RECORD);
         number("store", fountain_store(CARD(p), store, store_len, i, read, N, a), 0);
         answers("an accepted read", a, accepted, 2);
         number("store again", fountain_store(CARD(p), store, store_len, i + 1, read, N, a), 0);
         answers("a repeat", a, repeat, 2);
-        bytes("the records", store, DROPLETS, (i + 1) * RECORD);
+        bytes("the records", store, RECORDS, (i + 1) * RECORD);
     }
     kept("the shelf past three records", store + 3 * RECORD, store_len - 3 * RECORD);
 }
 
-/* Where the shelf has seed 1 with another payload, the bench read of seed 1 is refused. */
-static void store_other_payload(const struct pool *p)
+/* The strand of seed 1 and a read of it with its first byte wrong, on a shelf that has that seed in its second record with a payload and a
+ * state, and again in its third (document 02, Item 5). A clean read takes over a mended record, whatever its payload and with any state
+ * but 0; a mended read takes over none. The shelf is full, and no other byte changes. */
+static void clean_beats_mended(const struct pool *p)
 {
-    uint8_t store[2 * RECORD] = {0, 0, 0, 1, 0xE5, CANARY, CANARY, CANARY, CANARY, CANARY};
+    static const char *const reads[2] = {"AAAAAAAAAAAAAAACTGCAATCGTCAT", "TTTTAAAAAAAAAAACTGCAATCGTCAT"};
+    static const struct {
+        int mended;
+        uint8_t payload, state, returned, answer, payload_after, state_after;
+    } cases[] = {
+        {0, 0xE4, 1, 0, 2, 0xE4, 0}, {0, 0xE5, 1, 0, 2, 0xE4, 0},  {0, 0xE4, 7, 0, 2, 0xE4, 0},  {0, 0xE5, 255, 0, 2, 0xE4, 0},
+        {0, 0xE4, 0, 0, 1, 0xE4, 0}, {0, 0xE5, 0, 15, 0, 0xE5, 0}, {1, 0xE4, 0, 0, 1, 0xE4, 0},  {1, 0xE5, 0, 15, 0, 0xE5, 0},
+        {1, 0xE4, 1, 0, 1, 0xE4, 1}, {1, 0xE5, 1, 15, 0, 0xE5, 1}, {1, 0xE4, 7, 0, 1, 0xE4, 7},
+    };
+    for (size_t i = 0; i < sizeof cases / sizeof cases[0]; i++) {
+        const uint8_t wanted[3 * RECORD] = {0, 0, 0, 2, 0x69, 1, 0, 0, 0, 1, cases[i].payload_after, cases[i].state_after, 0, 0, 0, 1, 0xE5, 1};
+        const uint64_t answer[2] = {cases[i].answer, 3};
+        uint8_t store[3 * RECORD + SPARE] = {0, 0, 0, 2, 0x69, 1, 0, 0, 0, 1, cases[i].payload, cases[i].state, 0, 0, 0, 1, 0xE5, 1};
+        uint64_t a[3];
+        lend(store + 3 * RECORD, SPARE);
+        lend(a, sizeof a);
+        number("store over a record", fountain_store(CARD(p), store, sizeof store - SPARE, 3, (const uint8_t *)reads[cases[i].mended], N, a),
+               cases[i].returned);
+        if (cases[i].returned == 0)
+            answers("the answer over a record", a, answer, 2);
+        else
+            kept("the answer of a read with another payload", a, sizeof a);
+        bytes("the records", store, wanted, sizeof wanted);
+        kept("the shelf past them", store + 3 * RECORD, SPARE);
+    }
+}
+
+/* The header's example: a mended read, its strand, and the strand again, in an empty shelf. */
+static void replaced(const struct pool *p)
+{
+    static const char *const reads[3] = {"TTTTAAAAAAAAAAACTGCAATCGTCAT", "AAAAAAAAAAAAAAACTGCAATCGTCAT", "AAAAAAAAAAAAAAACTGCAATCGTCAT"};
+    static const uint64_t wanted[3][2] = {{0, 1}, {2, 1}, {1, 1}};
+    uint8_t store[RECORD + SPARE];
     uint64_t a[3];
-    lend(a, sizeof a);
-    number("store: 15", fountain_store(CARD(p), store, sizeof store, 1, (const uint8_t *)READS[1], N, a), 15);
-    kept("the answer of a read with another payload", a, sizeof a);
-    kept("the shelf past its one record", store + RECORD, RECORD);
-    number("the record's payload", store[4], 0xE5);
+    lend(store, sizeof store);
+    for (size_t i = 0; i < 3; i++) {
+        const uint8_t record[RECORD] = {0, 0, 0, 1, 0xE4, i == 0};
+        lend(a, sizeof a);
+        number("store", fountain_store(CARD(p), store, sizeof store, i > 0, (const uint8_t *)reads[i], N, a), 0);
+        answers("accepted, replaced, repeat", a, wanted[i], 2);
+        bytes("the record", store, record, RECORD);
+        kept("the shelf past it", store + RECORD, SPARE);
+    }
 }
 
 static void restore_refused(const struct pool *p, const uint8_t *store)
 {
-    static const uint8_t seed_zero[RECORD] = {0, 0, 0, 0, 1};
+    static const uint8_t seed_zero[RECORD] = {0, 0, 0, 0, 1, 0};
     uint8_t file[K + SPARE], marks[K + SPARE];
     uint32_t list[D + SPARE];
     uint64_t a[4];
@@ -648,8 +679,8 @@ int main(int argc, char **argv)
 {
     static const uint64_t three[3] = {3, 3, 0}, none[3] = {0, 1, 0};
     static const uint8_t file[K] = {0, 0x27, 0x4E, 0xE4}, marks[K] = {0, 1, 1, 1}, zeros[K] = {0, 0, 0, 0};
-    /* seed 1 picks segment 3: the first of these records fills it, and the other three contradict it */
-    static const uint8_t disputed[4 * RECORD] = {0, 0, 0, 1, 0xE4, 0, 0, 0, 1, 0xE5, 0, 0, 0, 1, 0xE6, 0, 0, 0, 1, 0xE7};
+    /* seed 1 picks segment 3: the first of these records fills it, though it is mended, and the other three contradict it */
+    static const uint8_t disputed[4 * RECORD] = {0, 0, 0, 1, 0xE4, 1, 0, 0, 0, 1, 0xE5, 0, 0, 0, 0, 1, 0xE6, 7, 0, 0, 0, 1, 0xE7, 0};
     static const uint64_t one[3] = {1, 2, 3};
     static const uint8_t last_file[K] = {0, 0, 0, 0xE4}, last_mark[K] = {0, 0, 0, 1};
     uint8_t card[64], store[3 * RECORD + 4];
@@ -681,7 +712,8 @@ int main(int argc, char **argv)
     split_job(&p);
     lend(store, sizeof store);
     store_reads(&p, store, sizeof store);
-    store_other_payload(&p);
+    clean_beats_mended(&p);
+    replaced(&p);
     restore_refused(&p, store);
     restore(&p, store, 3, three, file, marks);
     restore(&p, NULL, 0, none, zeros, zeros);

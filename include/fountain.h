@@ -54,7 +54,8 @@ extern "C" {
  * run of a site alone does not count.
  *
  * D is the number of weights, K the number of segments (F divided by L, rounded up), n the strand length, 4 * (4 + L + R)
- * letters. A record is a seed (four bytes, most significant first) and L payload bytes: 4 + L bytes. */
+ * letters. A record is a seed (four bytes, most significant first), L payload bytes and a state byte: 5 + L bytes. The state is 0 if
+ * the read of the record was clean, and 1 if it was mended; any other byte counts as mended. */
 
 /* Reads a pool card.
  *
@@ -211,22 +212,30 @@ uint32_t fountain_check_read(uint32_t F, uint8_t L, uint8_t R, uint8_t m, uint16
                              const uint8_t *read, size_t read_len,
                              uint8_t *out, size_t out_len);
 
-/* Offers one read to a store. A read that was mended is taken in as any other. An empty store is a buffer of any length and bytes with count 0.
+/* Offers one read to a store. An empty store is a buffer of any length and bytes with count 0. A read is clean if its own check sums are 0,
+ * and mended otherwise. The first record of its seed decides: a clean read takes over a record that is mended, even where it has another
+ * payload. A mended read takes over none, nor does a clean read take over a clean record.
  *
  *   F .. weights_len  as above
  *   store, store_len  the store: records from its start
  *   count             how many records it holds
  *   read, read_len    the letters of the read, n of them
- *   answer            lent for two numbers: what became of the read (0 accepted: its record was appended; 1 repeat: the store
- *                     has its record already), and the count to hand to the next call
+ *   answer            lent for two numbers: what became of the read (0 accepted: its record was appended; 1 repeat: the first
+ *                     record of its seed has its payload already; 2 replaced: it took over the first record of its seed), and the
+ *                     count to hand to the next call, which a repeat and a replacement leave as it was
  *
- * Returns 0 and fills answer. If the read was accepted, the 4 + L bytes of store from count * (4 + L) on hold its record, and
- * all others are as they were; if it was a repeat, all are. Otherwise (the next call is handed the same count):
+ * For example, under the bench card the strand of seed 1 is AAAAAAAAAAAAAAACTGCAATCGTCAT, and its payload is E4. The read
+ * TTTTAAAAAAAAAAACTGCAATCGTCAT, mended, leaves the record 00 00 00 01 E4 01 in an empty store; the strand itself is then answered
+ * with 2 and leaves 00 00 00 01 E4 00, and offered again with 1.
+ *
+ * Returns 0 and fills answer. If the read was accepted, the 5 + L bytes of store from count * (5 + L) on hold its record, and
+ * all others are as they were; if it replaced, the first record of its seed has its payload and state 0, and all other bytes are as they
+ * were; if it was a repeat, all are. Otherwise (the next call is handed the same count):
  *
  *    2, 3, 4, 27  as above
- *   14  count * (4 + L) is more than store_len
+ *   14  count * (5 + L) is more than store_len
  *    9 to 13  as of fountain_check_read
- *   15  the first record of this seed has another payload
+ *   15  the first record of this seed has another payload, and is clean or the read is mended
  *   16  the seed is new, and there is no space for its record */
 uint32_t fountain_store(uint32_t F, uint8_t L, uint8_t R, uint8_t m, uint16_t lo, uint16_t hi, uint8_t dealt, uint32_t width,
                         const uint8_t *weights, size_t weights_len,
@@ -234,7 +243,7 @@ uint32_t fountain_store(uint32_t F, uint8_t L, uint8_t R, uint8_t m, uint16_t lo
                         const uint8_t *read, size_t read_len,
                         uint64_t answer[2]);
 
-/* Restores what the records of a store give of a file.
+/* Restores what the records of a store give of a file. It looks at their seeds and payloads, and not at their states.
  *
  *   F .. weights_len  as above
  *   store, store_len  the store, of which nothing is written
@@ -250,7 +259,7 @@ uint32_t fountain_store(uint32_t F, uint8_t L, uint8_t R, uint8_t m, uint16_t lo
  * hold anything, those past D are as they were. Otherwise:
  *
  *    2, 3, 4, 27  as above
- *   14  count * (4 + L) is more than store_len
+ *   14  count * (5 + L) is more than store_len
  *   17  a record of the store has seed 0
  *   18  file is shorter than K * L bytes, or marks than K
  *    8  list has fewer than D places */

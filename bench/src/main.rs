@@ -291,6 +291,7 @@ fn shelve_all(
     count: usize,
     reads: &[Vec<u8>],
 ) -> (usize, [usize; 32]) {
+    // by what is answered, 0 to 2, or by the number of the refusal, which is 9 or more under a legal card
     let (mut count, mut answers, mut answer) = (count, [0; 32], [0; 2]);
     for read in reads {
         let n = store(card, weights, shelf, count, read, &mut answer) as usize;
@@ -392,11 +393,11 @@ fn run(job: &Job) -> Vec<Line> {
     }
 
     // shelve
-    let size = 4 + l;
+    let size = 5 + l;
     let mut records = vec![0u8; strands * size];
     for (record, strand) in records.chunks_exact_mut(size).zip(out_a.chunks_exact(line)) {
-        let strand = &strand[..line - 1];
-        assert_eq!(archive::check_read(card, &weights, strand, record), 0);
+        let (strand, droplet) = (&strand[..line - 1], &mut record[..size - 1]);
+        assert_eq!(archive::check_read(card, &weights, strand, droplet), 0);
     }
     let mut filled = vec![0xEE; (strands + 1) * size + 5];
     let first = job.shelved_first * size;
@@ -431,19 +432,22 @@ fn run(job: &Job) -> Vec<Line> {
     assert!(end_a == end_b && shelf_a == shelf_b, "the shelves differ");
     let (count, answers) = end_a;
     let from = job.shelved_first;
-    // a read with more wrong bytes than can be mended may be mended to a strand that was not written: its record may be false
-    let printed: HashSet<&[u8]> = records.chunks_exact(size).collect();
-    let other = shelf_a[..count * size]
-        .chunks_exact(size)
-        .filter(|record| !printed.contains(record))
+    // a read with more wrong bytes than can be mended may be mended to a strand that was not written: its record may be false, until a
+    // clean read of its seed replaces it
+    let printed: HashSet<&[u8]> = records.chunks_exact(size).map(|r| &r[..size - 1]).collect();
+    let shelved = shelf_a[..count * size].chunks_exact(size);
+    let mended = shelved.clone().filter(|r| r[size - 1] != 0).count();
+    let other = shelved
+        .filter(|r| !printed.contains(&r[..size - 1]))
         .count();
     lines.push(Line {
         phase: "shelve",
         what: format!(
-            "{} reads, {} accepted, {} repeats, shelf {from} to {count}, {other} records not as written",
+            "{} reads, {} accepted, {} repeats, {} replaced, shelf {from} to {count}, {mended} mended in the end, {other} not as written",
             reads.len(),
             answers[0],
-            answers[1]
+            answers[1],
+            answers[2]
         ),
         proved,
         rust,
@@ -490,9 +494,7 @@ fn run(job: &Job) -> Vec<Line> {
         a == b && file_a == file_b && marks_a == marks_b,
         "the restored files differ"
     );
-    let wrong = (0..k)
-        .filter(|i| marks_a[*i] == 1 && file_a[i * l..(i + 1) * l] != file[i * l..(i + 1) * l])
-        .count();
+    let wrong = wrong_segments(l, &file, &file_a, &marks_a[..k]);
     // false records make false segments; without any of them all segments that came back are the file's
     assert!(other > 0 || wrong == 0, "the file did not come back");
     lines.push(Line {
@@ -504,7 +506,75 @@ fn run(job: &Job) -> Vec<Line> {
         proved,
         rust,
     });
+
+    // the records of clean reads, which are as written here, by themselves
+    let (mut clean, mut c) = (clean_records(&shelf_a[..count * size], size), [9; 3]);
+    let records = clean.len() / size;
+    clean.extend([0xEE; 5]);
+    let times = race(
+        job.rounds,
+        || {
+            let (file, marks) = (&mut file_a, &mut marks_a);
+            assert_eq!(
+                archive::restore(
+                    card,
+                    &weights,
+                    &clean,
+                    records,
+                    file,
+                    marks,
+                    &mut list_a,
+                    &mut c
+                ),
+                0
+            )
+        },
+        || {
+            let (file, marks) = (&mut file_b, &mut marks_b);
+            assert_eq!(
+                tuned::restore(
+                    card,
+                    &weights,
+                    &clean,
+                    records,
+                    file,
+                    marks,
+                    &mut list_b,
+                    &mut b
+                ),
+                0
+            )
+        },
+    );
+    assert!(
+        c == b && file_a == file_b && marks_a == marks_b,
+        "the restored files differ"
+    );
+    let wrong = wrong_segments(l, &file, &file_a, &marks_a[..k]);
+    assert_eq!((c[2], wrong), (0, 0), "a clean read is not as written");
+    lines.push(Line {
+        phase: "restore",
+        what: format!(
+            "{} of {k} segments of the {records} records of clean reads in {} sweeps, {} contradictions, {wrong} segments wrong",
+            c[0], c[1], c[2]
+        ),
+        proved: times.0,
+        rust: times.1,
+    });
     lines
+}
+
+/// How many segments that came back are not the file's.
+fn wrong_segments(l: usize, file: &[u8], restored: &[u8], marks: &[u8]) -> usize {
+    (0..marks.len())
+        .filter(|i| marks[*i] == 1 && restored[i * l..(i + 1) * l] != file[i * l..(i + 1) * l])
+        .count()
+}
+
+/// A shelf without the records of mended reads.
+fn clean_records(shelf: &[u8], size: usize) -> Vec<u8> {
+    let clean = shelf.chunks_exact(size).filter(|r| r[size - 1] == 0);
+    clean.flatten().copied().collect()
 }
 
 /// Dealing and undealing of the largest file, by one width.

@@ -223,20 +223,27 @@ fn word_bytes(card: &Card) -> usize {
     4 + card.l as usize + card.r as usize
 }
 
-/// Question 11, with the word mended where at most R/2 of its bytes are wrong. What a clean word does not need is out of its way.
-fn mend(r: u8, word: &mut [u8]) -> bool {
+/// Question 11, with the word mended where at most R/2 of its bytes are wrong: whether it was, or `None` where it cannot be. What a
+/// clean word does not need is out of its way.
+fn mend(r: u8, word: &mut [u8]) -> Option<bool> {
     if r == 2 {
         let (mut a, mut b) = (0u8, 0u8);
         for &x in word.iter() {
             a ^= x;
             b = DOUBLES[b as usize] ^ x;
         }
-        return a | b == 0 || mend_by_two(a, b, word);
+        if a | b == 0 {
+            return Some(false);
+        }
+        return mend_by_two(a, b, word).then_some(true);
     }
     let (message, parity) = word.split_at(word.len() - 4);
     let rest =
         parity_four(message) ^ u32::from_be_bytes([parity[0], parity[1], parity[2], parity[3]]);
-    rest == 0 || mend_by_four(rest, word)
+    if rest == 0 {
+        return Some(false);
+    }
+    mend_by_four(rest, word).then_some(true)
 }
 
 #[inline(always)]
@@ -359,8 +366,8 @@ fn screen(card: &Card, word: &[u8]) -> Verdict {
     }
 }
 
-/// Questions 9 to 13: the seed, with the mended word in the buffer.
-fn check_letters(card: &Card, read: &[u8], word: &mut [u8; 72]) -> Result<u32, u32> {
+/// Questions 9 to 13: whether the read was mended, with its mended word in the buffer.
+fn check_letters(card: &Card, read: &[u8], word: &mut [u8; 72]) -> Result<bool, u32> {
     let size = word_bytes(card);
     if read.len() != 4 * size {
         return Err(9);
@@ -376,17 +383,16 @@ fn check_letters(card: &Card, read: &[u8], word: &mut [u8; 72]) -> Result<u32, u
         }
         *byte = a << 6 | b << 4 | c << 2 | d;
     }
-    if !mend(card.r, word) {
+    let Some(mended) = mend(card.r, word) else {
         return Err(11);
-    }
-    let seed = u32::from_be_bytes([word[0], word[1], word[2], word[3]]);
-    if seed == 0 {
+    };
+    if word[..4] == [0; 4] {
         return Err(12);
     }
     if !matches!(screen(card, word), Verdict::Passes) {
         return Err(13);
     }
-    Ok(seed)
+    Ok(mended)
 }
 
 #[inline(never)]
@@ -406,6 +412,23 @@ pub fn check_read(card: Card, weights: &[u8], read: &[u8], out: &mut [u8]) -> u3
     0
 }
 
+/// The number of the first record of a seed: two records a turn, for with one the time hangs on where the compiler puts the loop.
+#[inline(never)]
+fn find(shelf: &[u8], size: usize, seed: u32) -> Option<usize> {
+    let seed_at = |r: &[u8]| u32::from_ne_bytes([r[0], r[1], r[2], r[3]]);
+    let mut pairs = shelf.chunks_exact(2 * size);
+    for (i, pair) in pairs.by_ref().enumerate() {
+        if seed_at(pair) == seed {
+            return Some(2 * i);
+        }
+        if seed_at(&pair[size..]) == seed {
+            return Some(2 * i + 1);
+        }
+    }
+    let last = pairs.remainder();
+    (last.len() == size && seed_at(last) == seed).then(|| shelf.len() / size - 1)
+}
+
 #[inline(never)]
 pub fn store(
     card: Card,
@@ -418,19 +441,27 @@ pub fn store(
     if let Err(n) = plan_of(&card, weights) {
         return n;
     }
-    let size = 4 + card.l as usize;
+    let size = 5 + card.l as usize;
     if count > shelf.len() / size {
         return 14;
     }
     let mut word = [0; 72];
-    if let Err(n) = check_letters(&card, read, &mut word) {
-        return n;
-    }
-    let there = shelf[..count * size]
-        .chunks_exact(size)
-        .position(|record| record[..4] == word[..4]);
+    let mended = match check_letters(&card, read, &mut word) {
+        Ok(mended) => mended,
+        Err(n) => return n,
+    };
+    let droplet = &word[..size - 1];
+    let seed = u32::from_ne_bytes([word[0], word[1], word[2], word[3]]);
+    let there = find(&shelf[..count * size], size, seed);
     if let Some(i) = there {
-        if shelf[i * size..(i + 1) * size] != word[..size] {
+        let record = &mut shelf[i * size..(i + 1) * size];
+        if !mended && record[size - 1] != 0 {
+            record[4..size - 1].copy_from_slice(&droplet[4..]);
+            record[size - 1] = 0;
+            *answer = [2, count as u64];
+            return 0;
+        }
+        if record[..size - 1] != *droplet {
             return 15;
         }
         *answer = [1, count as u64];
@@ -440,7 +471,8 @@ pub fn store(
     if shelf.len() - at < size {
         return 16;
     }
-    shelf[at..at + size].copy_from_slice(&word[..size]);
+    shelf[at..at + size - 1].copy_from_slice(droplet);
+    shelf[at + size - 1] = u8::from(mended);
     *answer = [0, count as u64 + 1];
     0
 }
@@ -669,7 +701,7 @@ pub fn restore(
         Err(n) => return n,
     };
     let l = card.l as usize;
-    let (k, size) = (plan.k as usize, 4 + l);
+    let (k, size) = (plan.k as usize, 5 + l);
     if count > shelf.len() / size {
         return 14;
     }
@@ -694,7 +726,7 @@ pub fn restore(
             let (d, found) = draw_record(record, &plan, weights, marks, list);
             let Unmarked::One(s) = found else { continue };
             let mut payload = [0u8; 64];
-            payload[..l].copy_from_slice(&record[4..]);
+            payload[..l].copy_from_slice(&record[4..4 + l]);
             for &t in &list[..d] {
                 if t != s {
                     xor_segment(&mut payload, file, l, t);
@@ -718,7 +750,7 @@ pub fn restore(
         for &t in &list[..d] {
             xor_segment(&mut payload, file, l, t);
         }
-        contradictions += (payload[..l] != record[4..]) as u64;
+        contradictions += (payload[..l] != record[4..4 + l]) as u64;
     }
     *answer = [present, sweeps, contradictions];
     0

@@ -19,6 +19,7 @@
 
 pub mod card_cutter;
 pub mod check_bytes_letters_screen;
+pub mod clean_beats_mended;
 pub mod dealing;
 pub mod droplet;
 pub mod generator_and_seed_schedule;

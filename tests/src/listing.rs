@@ -59,7 +59,8 @@ pub fn listing(pool_card: Option<&[u8]>, standard_input: &[u8]) -> String {
                 accepted += 1;
                 count = after;
             }
-            Ok(Shelved::Repeat { count: after }) => {
+            // Document 02, Item 5: "the answer is "replaced", listed as repeated".
+            Ok(Shelved::Repeat { count: after } | Shelved::Replaced { count: after }) => {
                 repeated += 1;
                 count = after;
             }
@@ -93,6 +94,7 @@ pub fn listing(pool_card: Option<&[u8]>, standard_input: &[u8]) -> String {
 mod tests {
     use super::*;
     use crate::check_bytes_letters_screen::{letters_of_bytes, strand_bytes};
+    use crate::droplet::set_of_segments;
 
     const P: [u8; 28] = [
         0x01, 0x00, 0x06, 0x00, 0x00, 0x00, 0x04, 0x01, 0x02, //
@@ -259,7 +261,7 @@ AAAN
     }
 
     /// "Its shelf is 65,536 bytes; reads past that are refused under 16": with
-    /// L = 64 there is space for 963 records.
+    /// L = 64 there is space for 949 records of 69 bytes.
     #[test]
     fn full_shelf() {
         let card = card_with(64, 64, 1);
@@ -273,8 +275,61 @@ AAAN
         }
         assert_eq!(
             listing(Some(&card), &input),
-            "reads 1000 accepted 963 repeated 0 refused 37\n\
+            "reads 1000 accepted 949 repeated 0 refused 51\n\
              segments 1 present 1 sweeps 2 contradictions 0\n"
+        );
+    }
+
+    /// Document 02, Item 5: "the answer is "replaced", listed as repeated". A mended read
+    /// of seed 1, a clean one with the same payload, one with another payload, which is
+    /// refused, and a mended one, which is a repeat.
+    #[test]
+    fn replaced_is_listed_as_repeated() {
+        let mut card = P;
+        card[13] = 0;
+        card[14] = 0; // lo
+        let other = letters_of_bytes(&strand_bytes(1, &[0x1B], 2));
+        let lines: [&[u8]; 4] = [
+            b"TAAAAAAAAAAAAAACTGCAATCGTCAT",
+            b"AAAAAAAAAAAAAAACTGCAATCGTCAT",
+            &other,
+            b"AAAAAAAAAAAAAAACTGCAATCGTCAC",
+        ];
+        let sheet = "segments 4 present 1 sweeps 2 contradictions 0\n";
+        for (reads, expected) in [
+            (1, "reads 1 accepted 1 repeated 0 refused 0\n"),
+            (2, "reads 2 accepted 1 repeated 1 refused 0\n"),
+            (3, "reads 3 accepted 1 repeated 1 refused 1\n"),
+            (4, "reads 4 accepted 1 repeated 2 refused 1\n"),
+        ] {
+            let input = lines[..reads].join(&b'\n');
+            assert_eq!(listing(Some(&card), &input), expected.to_string() + sheet);
+        }
+    }
+
+    /// Another seed that picks segment 3 alone, as seed 1 does: a wrongly mended read of
+    /// it contradicts seed 1, until a clean one takes its place.
+    #[test]
+    fn replaced_before_the_restore() {
+        let mut card = P;
+        card[13] = 0;
+        card[14] = 0; // lo
+        let other = (2..)
+            .find(|&seed| set_of_segments(seed, &P[20..], 4) == [3])
+            .unwrap();
+        let strand = |seed: u32, payload: u8| strand_bytes(seed, &[payload], 2);
+        let mut misread = strand(other, 0xE5);
+        misread[0] ^= 0x21;
+        let lines = [strand(1, 0xE4), misread, strand(other, 0xE4)].map(|s| letters_of_bytes(&s));
+        assert_eq!(
+            listing(Some(&card), &lines[..2].join(&b'\n')),
+            "reads 2 accepted 2 repeated 0 refused 0\n\
+             segments 4 present 1 sweeps 2 contradictions 1\n"
+        );
+        assert_eq!(
+            listing(Some(&card), &lines.join(&b'\n')),
+            "reads 3 accepted 2 repeated 1 refused 0\n\
+             segments 4 present 1 sweeps 2 contradictions 0\n"
         );
     }
 

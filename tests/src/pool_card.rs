@@ -95,9 +95,11 @@ impl Handed<'_> {
         n_bases_of(self.l, self.r)
     }
 
-    /// "a record is seed and payload, 4 + L bytes"
+    /// "a record is seed and payload, 4 + L bytes", and document 02, Item 5: "A record
+    /// gains a state byte after its payload" and "Records are now 5 + L bytes in
+    /// question 14 and shelving's 16."
     pub fn record_bytes(&self) -> usize {
-        4 + usize::from(self.l)
+        5 + usize::from(self.l)
     }
 }
 

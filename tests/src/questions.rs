@@ -4,8 +4,10 @@
 //! its line. The calls ask them in the order shown there.
 
 use crate::check_bytes_letters_screen::Outcome;
+use crate::clean_beats_mended::State;
 use crate::mending::Mended;
 use crate::pool_card::{k_of, numbers_of_weights, sum_of_weights};
+use crate::shelf::Record;
 
 /// "The first "no" gives the number; a refusal holds that number only, and
 /// changes no buffer and no shelf count."
@@ -114,25 +116,29 @@ pub fn question_13(outcome: Outcome) -> bool {
     outcome == Outcome::Passes
 }
 
-/// "Shelving: count times (4+L) within the shelf? 14."
+/// "Shelving: count times (4+L) within the shelf? 14." The same of restoring. Document
+/// 02, Item 5: "Records are now 5 + L bytes in question 14 and shelving's 16."
 pub fn question_14(count: usize, record_length: usize, shelf_length: usize) -> bool {
     count as u128 * record_length as u128 <= shelf_length as u128
 }
 
-/// "The first record of this seed, if any, has this payload? 15."
-pub fn question_15(first_record_payload: Option<&[u8]>, payload: &[u8]) -> bool {
-    match first_record_payload {
+/// "The first record of this seed, if any, has this payload? 15." Document 02, Item
+/// 5: a clean read takes over what stands there as mended "even where the payloads
+/// differ", and "every other one with a different payload is refused under 15".
+pub fn question_15(first: Option<&Record>, payload: &[u8], state: State) -> bool {
+    match first {
         None => true,
-        Some(on_the_shelf) => on_the_shelf == payload,
+        Some(there) => state.takes_over(there.state) || there.payload == payload,
     }
 }
 
-/// "If the seed is new, space for a record? 16"
+/// "If the seed is new, space for a record? 16", a record of 5 + L bytes as in 14.
 pub fn question_16_shelf(count: usize, record_length: usize, shelf_length: usize) -> bool {
     (count as u128 + 1) * record_length as u128 <= shelf_length as u128
 }
 
-/// "Then, in the C form alone: buffer at least 4 + L bytes? 16"
+/// "Then, in the C form alone: buffer at least 4 + L bytes? 16" Seed and payload go
+/// there, and no state: document 02, Item 5, changes "shelving's 16" alone.
 pub fn question_16_c_form(buffer_length: usize, l: u8) -> bool {
     buffer_length >= 4 + usize::from(l)
 }
@@ -317,6 +323,47 @@ mod tests {
         ] {
             assert_eq!(question_28(4, source, target), yes, "{source} {target}");
         }
+    }
+
+    /// Clean or mended over clean or mended, with the same payload and another: 15 says
+    /// no of another payload, but not of a clean read over a mended record.
+    #[test]
+    fn question_15_edges() {
+        use State::{Clean, Mended};
+        for (read, there, other_payload_is_fine) in [
+            (Clean, Clean, false),
+            (Clean, Mended, true),
+            (Mended, Clean, false),
+            (Mended, Mended, false),
+        ] {
+            let record = Record {
+                seed: 1,
+                payload: &[3, 4],
+                state: there,
+            };
+            assert!(question_15(Some(&record), &[3, 4], read));
+            for payload in [[3, 5], [2, 4], [0, 0]] {
+                assert_eq!(
+                    question_15(Some(&record), &payload, read),
+                    other_payload_is_fine
+                );
+            }
+        }
+        assert!(question_15(None, &[3, 4], Clean));
+        assert!(question_15(None, &[3, 4], Mended));
+    }
+
+    /// Records of 5 + L bytes: for L = 1 six of them, one byte less is too few.
+    #[test]
+    fn space_for_records() {
+        for count in [1, 2, 3, 1000] {
+            assert!(question_14(count, 6, 6 * count));
+            assert!(!question_14(count, 6, 6 * count - 1));
+            assert!(question_16_shelf(count - 1, 6, 6 * count));
+            assert!(!question_16_shelf(count - 1, 6, 6 * count - 1));
+        }
+        assert!(question_16_c_form(5, 1));
+        assert!(!question_16_c_form(4, 1));
     }
 
     /// Largest numbers do not wrap.

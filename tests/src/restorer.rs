@@ -3,7 +3,7 @@
 use crate::droplet::{payload, set_of_segments, xor_into};
 use crate::pool_card::Handed;
 use crate::questions::{ask, question_14, question_17, question_18, question_8, Refusal};
-use crate::shelf::records;
+use crate::shelf::{records, Record};
 
 /// "The answer holds present (marks set), sweeps, and contradictions, counted
 /// after the last sweep".
@@ -15,7 +15,9 @@ pub struct Restored {
 }
 
 /// "Restore: 14. No seed 0 on the shelf? 17. File at least K·L, marks at least
-/// K? 18. Then 8." and the sweeps.
+/// K? 18. Then 8." and the sweeps. Document 02, Item 5: "Records are now 5 + L bytes in
+/// question 14". What it says of states is said of shelving; here seed and payload
+/// alone are looked at: "The restore guarantee covers these records".
 ///
 /// "The lent list for segment numbers is the only memory left free, and only in
 /// its first D places." Here only the list's length is asked for (question 8);
@@ -31,7 +33,7 @@ pub fn restore(
     handed.card_questions()?;
     ask(question_14(count, handed.record_bytes(), shelf.len()), 14)?;
     let records = records(shelf, count, handed.l);
-    let seeds: Vec<u32> = records.iter().map(|&(seed, _)| seed).collect();
+    let seeds: Vec<u32> = records.iter().map(|record| record.seed).collect();
     ask(question_17(&seeds), 17)?;
     let k = handed.k();
     ask(question_18(file.len(), marks.len(), k, handed.l), 18)?;
@@ -43,7 +45,7 @@ pub fn restore(
     // picks."
     let droplets: Vec<(Vec<usize>, &[u8])> = records
         .iter()
-        .map(|&(seed, payload)| (set_of_segments(seed, handed.weights, k), payload))
+        .map(|&Record { seed, payload, .. }| (set_of_segments(seed, handed.weights, k), payload))
         .collect();
 
     // "It sets the first K·L file bytes and K marks to 0." and "Bytes past K·L
@@ -125,13 +127,20 @@ mod tests {
         weights: &P_WEIGHTS,
     };
 
-    fn shelf_of(records: &[(u32, &[u8])]) -> Vec<u8> {
+    /// A shelf of these records, all of them with this state byte.
+    fn shelf_of_state(state: u8, records: &[(u32, &[u8])]) -> Vec<u8> {
         let mut shelf = Vec::new();
         for (seed, payload) in records {
             shelf.extend_from_slice(&seed.to_be_bytes());
             shelf.extend_from_slice(payload);
+            shelf.push(state);
         }
         shelf
+    }
+
+    /// A shelf of these records, clean.
+    fn shelf_of(records: &[(u32, &[u8])]) -> Vec<u8> {
+        shelf_of_state(0, records)
     }
 
     /// Bench example: "Reads of seeds 2, 1, 3 in that order: file 00 27 4E E4,
@@ -154,6 +163,44 @@ mod tests {
         assert_eq!(file, [0x00, 0x27, 0x4E, 0xE4, 0xAB, 0xAB]);
         assert_eq!(marks, [0, 1, 1, 1, 0xCD]);
         assert_eq!(list[2], 7);
+    }
+
+    /// Document 02, Item 5, gives the state byte no meaning for a restore: the bench
+    /// example with every state byte, one for all records or another one for each.
+    #[test]
+    fn states_are_not_looked_at() {
+        let records: [(u32, &[u8]); 3] = [(2, &[0x69]), (1, &[0xE4]), (3, &[0x27])];
+        for state in 0..=255u8 {
+            let mut mixed = shelf_of_state(state, &records);
+            (mixed[5], mixed[11]) = (state ^ 1, state.wrapping_mul(3));
+            for shelf in [shelf_of_state(state, &records), mixed] {
+                let (mut file, mut marks) = ([0xAB; 5], [0xCD; 5]);
+                let answer = restore(&P, &shelf, 3, &mut file, &mut marks, &mut [0; 2]).unwrap();
+                assert_eq!((answer.present, answer.sweeps), (3, 3));
+                assert_eq!(answer.contradictions, 0);
+                assert_eq!(file, [0x00, 0x27, 0x4E, 0xE4, 0xAB]);
+                assert_eq!(marks, [0, 1, 1, 1, 0xCD]);
+            }
+            // A seed 0 is one in a record of any state, and a state of 0 is no seed.
+            let seed_0 = shelf_of_state(state, &[(1, &[0xE4]), (0, &[0xE4])]);
+            let answer = restore(&P, &seed_0, 2, &mut [0; 4], &mut [0; 4], &mut [0; 2]);
+            assert_eq!(answer, Err(Refusal(17)));
+        }
+    }
+
+    /// "Records are now 5 + L bytes in question 14": 6 of them for each record here.
+    #[test]
+    fn records_within_the_shelf() {
+        let shelf = shelf_of(&[(2, &[0x69]), (1, &[0xE4]), (3, &[0x27])]);
+        for length in 0..=18 {
+            for count in 0..=4 {
+                let lent = &shelf[..length];
+                let answer = restore(&P, lent, count, &mut [0; 4], &mut [0; 4], &mut [0; 2]);
+                let refused = answer == Err(Refusal(14));
+                assert_eq!(refused, count * 6 > length, "{count} {length}");
+                assert!(refused || answer.is_ok());
+            }
+        }
     }
 
     /// Bench example: "An empty shelf: present 0, sweeps 1."
@@ -354,6 +401,7 @@ mod tests {
                 }
                 shelf.extend_from_slice(&seed.to_be_bytes());
                 shelf.push(value);
+                shelf.push(next(3) as u8); // the state, whatever it is
                 droplets.push((set, value));
             }
 

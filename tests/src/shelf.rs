@@ -1,6 +1,8 @@
-//! Section "Shelf".
+//! Section "Shelf", with the state byte of Item 5 of document 02, "Clean beats
+//! mended".
 
 use crate::check_bytes_letters_screen::questions_9_to_13;
+use crate::clean_beats_mended::State;
 use crate::pool_card::{number_of_bytes, Handed};
 use crate::questions::{ask, question_14, question_15, question_16_shelf, Refusal};
 
@@ -10,25 +12,45 @@ use crate::questions::{ask, question_14, question_15, question_16_shelf, Refusal
 pub enum Shelved {
     /// "None there: the record is appended (accepted)."
     Accepted { count: usize },
-    /// "Same payload: the answer is "repeat"."
+    /// "Same payload: the answer is "repeat"." Document 02, Item 5: "Every other read
+    /// with the same payload is a repeat", that is, every one that does not take over.
     Repeat { count: usize },
+    /// Document 02, Item 5: "A clean read whose seed stands there as mended takes over
+    /// payload and state, even where the payloads differ, and the answer is
+    /// "replaced"". The count is as it was.
+    Replaced { count: usize },
 }
 
-/// "A shelf is a lent buffer and a count of records from its start; a record is
-/// seed and payload, 4 + L bytes." The seed and payload of each record.
+/// What stands in a record: seed and payload, and document 02, Item 5: "A record gains
+/// a state byte after its payload".
+#[derive(Clone, Copy, Debug, PartialEq, Eq)]
+pub struct Record<'a> {
+    pub seed: u32,
+    pub payload: &'a [u8],
+    pub state: State,
+}
+
+/// "A shelf is a lent buffer and a count of records from its start", each of 5 + L
+/// bytes (document 02, Item 5).
 ///
-/// Needs count times (4 + L) to lie within the shelf.
-pub fn records(shelf: &[u8], count: usize, l: u8) -> Vec<(u32, &[u8])> {
-    let record_bytes = 4 + usize::from(l);
+/// Needs count times (5 + L) to lie within the shelf.
+pub fn records(shelf: &[u8], count: usize, l: u8) -> Vec<Record<'_>> {
+    let state_at = 4 + usize::from(l);
+    let record_bytes = state_at + 1;
     shelf[..count * record_bytes]
         .chunks_exact(record_bytes)
-        .map(|record| (number_of_bytes(&record[..4]), &record[4..]))
+        .map(|record| Record {
+            seed: number_of_bytes(&record[..4]),
+            payload: &record[4..state_at],
+            state: State::of_byte(record[state_at]),
+        })
         .collect()
 }
 
 /// "Shelving: count times (4+L) within the shelf? 14. Then 9 to 13. The first
 /// record of this seed, if any, has this payload? 15. If the seed is new, space
-/// for a record? 16"
+/// for a record? 16", with records of 5 + L bytes and 15 as document 02, Item 5, has
+/// them.
 pub fn shelve(
     handed: &Handed,
     read: &[u8],
@@ -40,23 +62,42 @@ pub fn shelve(
     ask(question_14(count, record_bytes, shelf.len()), 14)?;
     let droplet = questions_9_to_13(handed, read)?;
     let payload = &droplet.payload[..usize::from(handed.l)];
+    let state = State::of_read(&droplet);
 
     // "A read that passes the check is compared with the first record of its
     // seed."
-    let first_of_this_seed = records(shelf, count, handed.l)
-        .into_iter()
-        .find(|&(seed, _)| seed == droplet.seed)
-        .map(|(_, payload_there)| payload_there);
-    ask(question_15(first_of_this_seed, payload), 15)?;
-    if first_of_this_seed.is_some() {
-        return Ok(Shelved::Repeat { count });
-    }
+    let on_shelf = records(shelf, count, handed.l);
+    let place = on_shelf
+        .iter()
+        .position(|record| record.seed == droplet.seed);
+    let first = place.map(|place| &on_shelf[place]);
+    ask(question_15(first, payload, state), 15)?;
+    let takes_over = first.is_some_and(|there| state.takes_over(there.state));
 
-    ask(question_16_shelf(count, record_bytes, shelf.len()), 16)?;
-    let start = count * record_bytes;
-    shelf[start..start + 4].copy_from_slice(&droplet.seed.to_be_bytes());
-    shelf[start + 4..start + record_bytes].copy_from_slice(payload);
-    Ok(Shelved::Accepted { count: count + 1 })
+    match place {
+        Some(place) if takes_over => {
+            let record = &mut shelf[place * record_bytes..(place + 1) * record_bytes];
+            take_over(record, payload, state);
+            Ok(Shelved::Replaced { count })
+        }
+        Some(_) => Ok(Shelved::Repeat { count }),
+        None => {
+            ask(question_16_shelf(count, record_bytes, shelf.len()), 16)?;
+            let record = &mut shelf[count * record_bytes..(count + 1) * record_bytes];
+            record[..4].copy_from_slice(&droplet.seed.to_be_bytes());
+            take_over(record, payload, state);
+            Ok(Shelved::Accepted { count: count + 1 })
+        }
+    }
+}
+
+/// "takes over payload and state": a record's bytes behind its seed become these.
+fn take_over(record: &mut [u8], payload: &[u8], state: State) {
+    let (state_byte, seed_and_payload) = record
+        .split_last_mut()
+        .expect("a record has 5 bytes and more");
+    seed_and_payload[4..].copy_from_slice(payload);
+    *state_byte = state.byte();
 }
 
 #[cfg(test)]
@@ -82,7 +123,7 @@ mod tests {
 
     #[test]
     fn bench_reads_are_shelved() {
-        let mut shelf = [0x99; 17];
+        let mut shelf = [0x99; 20];
         assert_eq!(
             shelve(&P, SEED_2, &mut shelf, 0),
             Ok(Shelved::Accepted { count: 1 })
@@ -100,10 +141,10 @@ mod tests {
             Ok(Shelved::Repeat { count: 3 })
         );
         assert_eq!(shelve(&P, b"AAAN", &mut shelf, 3), Err(Refusal(9)));
-        assert_eq!(
-            shelf,
-            [0, 0, 0, 2, 0x69, 0, 0, 0, 1, 0xE4, 0, 0, 0, 3, 0x27, 0x99, 0x99]
-        );
+        assert_eq!(shelf[..6], [0, 0, 0, 2, 0x69, 0]);
+        assert_eq!(shelf[6..12], [0, 0, 0, 1, 0xE4, 0]);
+        assert_eq!(shelf[12..18], [0, 0, 0, 3, 0x27, 0]);
+        assert_eq!(shelf[18..], [0x99; 2]);
     }
 
     #[test]
@@ -111,7 +152,8 @@ mod tests {
         let loose = Handed { lo: 0, ..P };
         let other_payload = letters_of_bytes(&strand_bytes(1, &[0x1B], 2));
         assert!(read_check(&loose, &other_payload).is_ok());
-        let start = [0, 0, 0, 1, 0xE4, 0x55, 0x66, 0x77, 0x88];
+        // One record, clean, and a byte less than another one takes.
+        let start = [0, 0, 0, 1, 0xE4, 0, 0x55, 0x66, 0x77, 0x88, 0x99];
         let mut shelf = start;
         let mut go = |handed: &Handed, read: &[u8], count: usize| {
             let answer = shelve(handed, read, &mut shelf, count);
@@ -187,66 +229,273 @@ mod tests {
         assert_eq!(go(&loose, SEED_1, 1), 0); // a repeat needs no space
     }
 
+    /// Without limits for C and G, so that other payloads are legal too.
+    const LOOSE: Handed = Handed { lo: 0, ..P };
+
+    /// A clean read of seed 1 with this payload.
+    fn clean(payload: u8) -> Vec<u8> {
+        let read = letters_of_bytes(&strand_bytes(1, &[payload], 2));
+        assert_eq!(read_check(&LOOSE, &read).map(|d| d.mended), Ok(0));
+        read
+    }
+
+    /// A read that is mended to seed 1 with this payload.
+    fn mended(payload: u8) -> Vec<u8> {
+        let mut bytes = strand_bytes(1, &[payload], 2);
+        bytes[6] ^= 0x21;
+        let read = letters_of_bytes(&bytes);
+        assert_eq!(read_check(&LOOSE, &read).map(|d| d.mended), Ok(1));
+        read
+    }
+
+    /// A strand of seed 1 with payload E4, misread in two bytes, where R = 2 can mend
+    /// one, so that it is mended to another payload.
+    fn wrongly_mended() -> (Vec<u8>, u8) {
+        let printed = strand_bytes(1, &[0xE4], 2);
+        let other = strand_bytes(1, &[0xE5], 2);
+        let read = letters_of_bytes(&[&printed[..5], &other[5..]].concat());
+        let droplet = read_check(&LOOSE, &read).unwrap();
+        assert_eq!((droplet.seed, droplet.mended), (1, 1));
+        assert_eq!(droplet.payload[0], 0xE5);
+        (read, 0xE5)
+    }
+
+    const ACCEPTED: Result<Shelved, Refusal> = Ok(Shelved::Accepted { count: 1 });
+    const REPEAT: Result<Shelved, Refusal> = Ok(Shelved::Repeat { count: 1 });
+    const REPLACED: Result<Shelved, Refusal> = Ok(Shelved::Replaced { count: 1 });
+
     /// Document 02, Item 3: "the strings accepted are those of n legal letters within R/2
     /// bytes of a legal strand", and the shelf takes what the read check accepts. A
-    /// record has seed and payload of the mended strand; a clean read of it is a repeat,
-    /// and so is a mended one of a clean record.
+    /// record has seed and payload of the mended strand and the state mended, until a
+    /// clean read of it comes.
     #[test]
     fn mended_reads_are_shelved() {
         // The first letter of seed 1, its last one, and one in the byte of its seed.
         let wrong_first: &[u8] = b"TAAAAAAAAAAAAAACTGCAATCGTCAT";
         let wrong_last: &[u8] = b"AAAAAAAAAAAAAAACTGCAATCGTCAC";
         let wrong_seed: &[u8] = b"AAAAAAAAAAAAAAATTGCAATCGTCAT";
-        let start = [0x99; 6];
-        for first in [wrong_first, wrong_last, wrong_seed, SEED_1] {
-            let mut shelf = start;
-            let accepted = shelve(&P, first, &mut shelf, 0);
-            assert_eq!(accepted, Ok(Shelved::Accepted { count: 1 }));
-            assert_eq!(shelf, [0, 0, 0, 1, 0xE4, 0x99]);
-            for again in [SEED_1, wrong_last, wrong_seed, wrong_first] {
-                let repeat = shelve(&P, again, &mut shelf, 1);
-                assert_eq!(repeat, Ok(Shelved::Repeat { count: 1 }));
+        let misread = [wrong_first, wrong_last, wrong_seed];
+        for first in misread {
+            let mut shelf = [0x99; 7];
+            assert_eq!(shelve(&P, first, &mut shelf, 0), ACCEPTED);
+            for again in misread {
+                assert_eq!(shelve(&P, again, &mut shelf, 1), REPEAT);
+                assert_eq!(shelf, [0, 0, 0, 1, 0xE4, 1, 0x99]);
             }
-            assert_eq!(shelf, [0, 0, 0, 1, 0xE4, 0x99]);
+            assert_eq!(shelve(&P, SEED_1, &mut shelf, 1), REPLACED);
+            for again in [wrong_last, SEED_1, wrong_seed, wrong_first, SEED_1] {
+                assert_eq!(shelf, [0, 0, 0, 1, 0xE4, 0, 0x99]);
+                assert_eq!(shelve(&P, again, &mut shelf, 1), REPEAT);
+            }
+            assert_eq!(shelf, [0, 0, 0, 1, 0xE4, 0, 0x99]);
         }
         // Another payload for its seed, and no space, are found out after mending.
-        let mut shelf = [0, 0, 0, 1, 0xE5, 0x99];
+        let mut shelf = [0, 0, 0, 1, 0xE5, 1, 0x99];
         assert_eq!(shelve(&P, wrong_first, &mut shelf, 1), Err(Refusal(15)));
-        assert_eq!(shelve(&P, wrong_first, &mut [0; 4], 0), Err(Refusal(16)));
+        assert_eq!(shelve(&P, wrong_first, &mut [0; 5], 0), Err(Refusal(16)));
         // 14 comes first, and a mended seed of 0 is refused.
         assert_eq!(shelve(&P, wrong_first, &mut shelf, 2), Err(Refusal(14)));
         let mut of_seed_0 = [b'A'; 28];
         of_seed_0[15] = b'C';
         assert_eq!(shelve(&P, &of_seed_0, &mut shelf, 1), Err(Refusal(12)));
-        assert_eq!(shelf, [0, 0, 0, 1, 0xE5, 0x99]);
+        assert_eq!(shelf, [0, 0, 0, 1, 0xE5, 1, 0x99]);
     }
 
-    /// Only the first record of a seed counts, on a shelf that holds two.
+    /// Document 02, Item 5: "0 clean, 1 mended", whatever stood there before, and 1 for
+    /// two bytes mended as for one.
+    #[test]
+    fn state_of_an_accepted_read() {
+        for lent in [0, 1, 2, 0xFF] {
+            let mut shelf = [lent; 7];
+            assert_eq!(shelve(&P, SEED_1, &mut shelf, 0), ACCEPTED);
+            assert_eq!(shelf, [0, 0, 0, 1, 0xE4, 0, lent]);
+            let mut shelf = [lent; 7];
+            assert_eq!(shelve(&LOOSE, &mended(0xE4), &mut shelf, 0), ACCEPTED);
+            assert_eq!(shelf, [0, 0, 0, 1, 0xE4, 1, lent]);
+            let r_4 = Handed { r: 4, ..LOOSE };
+            for wrong in 0..=2 {
+                let mut bytes = strand_bytes(0x1234_5678, &[0x9A], 4);
+                for place in 0..wrong {
+                    bytes[4 * place] ^= 0xFF;
+                }
+                let mut shelf = [lent; 7];
+                let read = letters_of_bytes(&bytes);
+                assert_eq!(read_check(&r_4, &read).map(|d| d.mended), Ok(wrong));
+                assert_eq!(shelve(&r_4, &read, &mut shelf, 0), ACCEPTED);
+                let state = u8::from(wrong > 0);
+                assert_eq!(shelf, [0x12, 0x34, 0x56, 0x78, 0x9A, state, lent]);
+            }
+        }
+    }
+
+    /// "A clean read whose seed stands there as mended takes over payload and state, even
+    /// where the payloads differ, and the answer is "replaced"", for every byte that reads
+    /// as mended: "any other byte reads as mended". The state left is 0, so that it is
+    /// done once.
+    #[test]
+    fn clean_takes_over() {
+        for state in 1..=255 {
+            for there in [0xE4, 0xE5, 0x00, 0x1B] {
+                let mut shelf = [0, 0, 0, 1, there, state, 0x99];
+                assert_eq!(shelve(&P, SEED_1, &mut shelf, 1), REPLACED);
+                assert_eq!(shelf, [0, 0, 0, 1, 0xE4, 0, 0x99], "{there} {state}");
+                assert_eq!(shelve(&P, SEED_1, &mut shelf, 1), REPEAT);
+                assert_eq!(
+                    shelve(&LOOSE, &clean(0x1B), &mut shelf, 1),
+                    Err(Refusal(15))
+                );
+                assert_eq!(shelf, [0, 0, 0, 1, 0xE4, 0, 0x99], "{there} {state}");
+            }
+        }
+        let (read, payload) = wrongly_mended();
+        let mut shelf = [0x99; 6];
+        assert_eq!(shelve(&LOOSE, &read, &mut shelf, 0), ACCEPTED);
+        assert_eq!(shelf, [0, 0, 0, 1, payload, 1]);
+        assert_eq!(shelve(&LOOSE, SEED_1, &mut shelf, 1), REPLACED);
+        assert_eq!(shelf, [0, 0, 0, 1, 0xE4, 0]);
+        assert_eq!(shelve(&LOOSE, &read, &mut shelf, 1), Err(Refusal(15)));
+        assert_eq!(shelf, [0, 0, 0, 1, 0xE4, 0]);
+    }
+
+    /// "Every other read with the same payload is a repeat, and every other one with a
+    /// different payload is refused under 15": a mended read over any state, and a clean
+    /// one over a clean record. Neither changes a byte, the state byte included.
+    #[test]
+    fn every_other_read() {
+        for state in 0..=255 {
+            let there = [0, 0, 0, 1, 0xE4, state, 0x99];
+            let mut shelf = there;
+            assert_eq!(shelve(&LOOSE, &mended(0xE4), &mut shelf, 1), REPEAT);
+            assert_eq!(shelf, there);
+            for other in [0xE5, 0x00, 0x1B] {
+                let refused = shelve(&LOOSE, &mended(other), &mut shelf, 1);
+                assert_eq!(refused, Err(Refusal(15)));
+                assert_eq!(shelf, there);
+            }
+            let refused = shelve(&LOOSE, &wrongly_mended().0, &mut shelf, 1);
+            assert_eq!((refused, shelf), (Err(Refusal(15)), there));
+        }
+        let there = [0, 0, 0, 1, 0xE4, 0, 0x99];
+        let mut shelf = there;
+        assert_eq!(shelve(&LOOSE, &clean(0xE4), &mut shelf, 1), REPEAT);
+        assert_eq!(
+            shelve(&LOOSE, &clean(0xE5), &mut shelf, 1),
+            Err(Refusal(15))
+        );
+        assert_eq!(shelf, there);
+    }
+
+    /// All of a payload is taken over, and nothing beside the record.
+    #[test]
+    fn long_payload_is_taken_over() {
+        let handed = Handed {
+            f: 64,
+            l: 64,
+            weights: &[0, 0, 0, 1],
+            ..LOOSE
+        };
+        let payload: [u8; 64] = std::array::from_fn(|i| 0x1B ^ (37 * i) as u8);
+        let read = letters_of_bytes(&strand_bytes(0x1234_5678, &payload, 2));
+        // A clean stranger before it and one behind it, and bytes past the records.
+        let stranger = [&[9, 9, 9, 9][..], &[0xAA; 64], &[0]].concat();
+        let wrong = [&[0x12, 0x34, 0x56, 0x78][..], &[0x55; 64], &[1]].concat();
+        let right = [&[0x12, 0x34, 0x56, 0x78][..], &payload, &[0]].concat();
+        let around = |record: &[u8]| [&stranger, record, &stranger, &[0x77; 70]].concat();
+        let mut shelf = around(&wrong);
+        let answer = shelve(&handed, &read, &mut shelf, 3);
+        assert_eq!(answer, Ok(Shelved::Replaced { count: 3 }));
+        assert_eq!(shelf, around(&right));
+        let answer = shelve(&handed, &read, &mut shelf, 3);
+        assert_eq!(answer, Ok(Shelved::Repeat { count: 3 }));
+        assert_eq!(shelf, around(&right));
+    }
+
+    /// A replacement needs no space and is asked for after 14 and 9 to 13; 15 comes
+    /// before 16.
+    #[test]
+    fn full_shelves_and_the_order_of_questions() {
+        let there = [0, 0, 0, 1, 0x1B, 1];
+        let mut shelf = there;
+        assert_eq!(
+            shelve(&LOOSE, &mended(0xE4), &mut shelf, 1),
+            Err(Refusal(15))
+        );
+        assert_eq!(shelve(&LOOSE, SEED_2, &mut shelf, 1), Err(Refusal(16)));
+        assert_eq!(shelve(&LOOSE, SEED_1, &mut shelf, 2), Err(Refusal(14)));
+        assert_eq!(
+            shelve(&LOOSE, &SEED_1[..27], &mut shelf, 1),
+            Err(Refusal(9))
+        );
+        let screened = Handed { m: 14, ..LOOSE };
+        assert_eq!(shelve(&screened, SEED_1, &mut shelf, 1), Err(Refusal(13)));
+        assert_eq!(shelf, there);
+        assert_eq!(shelve(&LOOSE, SEED_1, &mut shelf, 1), REPLACED);
+        assert_eq!(shelf, [0, 0, 0, 1, 0xE4, 0]);
+        // 14 of one record, and space for the next, are 6 bytes each.
+        for length in 0..=12 {
+            let mut shelf = vec![9; length];
+            let fourteen = shelve(&LOOSE, SEED_1, &mut shelf, 1) == Err(Refusal(14));
+            assert_eq!(fourteen, length < 6);
+            let mut shelf = vec![9; length];
+            let answer = shelve(&LOOSE, SEED_1, &mut shelf, 1);
+            let accepted = answer == Ok(Shelved::Accepted { count: 2 });
+            assert_eq!(accepted, length == 12);
+            let sixteen = answer == Err(Refusal(16));
+            assert_eq!(sixteen, (6..12).contains(&length));
+        }
+    }
+
+    /// Only the first record of a seed counts, on a shelf that holds two: neither payload
+    /// nor state of the second one is looked at or changed.
     #[test]
     fn compared_with_the_first_record_of_its_seed() {
-        let mut shelf = [0, 0, 0, 1, 0x11, 0, 0, 0, 1, 0xE4];
-        assert_eq!(shelve(&P, SEED_1, &mut shelf, 2), Err(Refusal(15)));
-        let mut shelf = [0, 0, 0, 1, 0xE4, 0, 0, 0, 1, 0x11];
-        assert_eq!(
-            shelve(&P, SEED_1, &mut shelf, 2),
-            Ok(Shelved::Repeat { count: 2 })
+        let two = |first: [u8; 2], second: [u8; 2]| {
+            [&[0, 0, 0, 1][..], &first, &[0, 0, 0, 1], &second].concat()
+        };
+        let (repeat, replaced) = (
+            Ok(Shelved::Repeat { count: 2 }),
+            Ok(Shelved::Replaced { count: 2 }),
         );
+        for second in [[0xE4, 0], [0xE4, 1], [0x11, 0], [0x11, 1], [0x11, 7]] {
+            for (first, answer) in [
+                ([0x11, 0], Err(Refusal(15))),
+                ([0xE4, 0], repeat),
+                ([0x11, 1], replaced),
+                ([0xE4, 1], replaced),
+                ([0xE4, 9], replaced),
+            ] {
+                let mut shelf = two(first, second);
+                assert_eq!(shelve(&P, SEED_1, &mut shelf, 2), answer);
+                let after = if answer == replaced { [0xE4, 0] } else { first };
+                assert_eq!(shelf, two(after, second));
+            }
+            for (first, answer) in [
+                ([0x11, 0], Err(Refusal(15))),
+                ([0x11, 1], Err(Refusal(15))),
+                ([0xE4, 0], repeat),
+                ([0xE4, 1], repeat),
+                ([0xE4, 9], repeat),
+            ] {
+                let mut shelf = two(first, second);
+                assert_eq!(shelve(&LOOSE, &mended(0xE4), &mut shelf, 2), answer);
+                assert_eq!(shelf, two(first, second));
+            }
+        }
         // Bytes past the count are no records.
-        assert_eq!(
-            shelve(&P, SEED_1, &mut shelf, 0),
-            Ok(Shelved::Accepted { count: 1 })
-        );
+        let mut shelf = two([0x11, 1], [0xE4, 1]);
+        assert_eq!(shelve(&P, SEED_1, &mut shelf, 0), ACCEPTED);
+        assert_eq!(shelf, two([0xE4, 0], [0xE4, 1]));
     }
 
     /// A record of seed 0 on a shelf lent by another hand does not hinder.
     #[test]
     fn seed_0_on_the_shelf_is_not_asked_for() {
-        let mut shelf = [0; 10];
+        let mut shelf = [0; 12];
         assert_eq!(
             shelve(&P, SEED_1, &mut shelf, 1),
             Ok(Shelved::Accepted { count: 2 })
         );
-        assert_eq!(shelf, [0, 0, 0, 0, 0, 0, 0, 0, 1, 0xE4]);
+        assert_eq!(shelf, [0, 0, 0, 0, 0, 0, 0, 0, 0, 1, 0xE4, 0]);
     }
 
     /// An empty buffer is a shelf too: everything new is 16.
@@ -254,68 +503,5 @@ mod tests {
     fn shelf_of_length_0() {
         assert_eq!(shelve(&P, SEED_1, &mut [], 0), Err(Refusal(16)));
         assert_eq!(shelve(&P, b"", &mut [], 0), Err(Refusal(9)));
-    }
-
-    /// "After a list of shelving calls, go through the reads offered: keep the
-    /// legal ones whose seed no earlier legal one has, and of these only the
-    /// first ones, as many as whole records fit the buffer. The count is their
-    /// number, the records have their seeds and payloads in that order, and the
-    /// bytes past the records are as they were lent."
-    #[test]
-    fn lists_of_shelving_calls() {
-        let mut x = 99u32;
-        let mut next = |below: u32| {
-            x = x.wrapping_mul(1_664_525).wrapping_add(1_013_904_223);
-            (x >> 8) % below
-        };
-        let loose = Handed {
-            m: 16,
-            lo: 100,
-            hi: 800,
-            ..P
-        };
-        for _ in 0..300 {
-            let lent: Vec<u8> = (0..next(40)).map(|_| next(256) as u8).collect();
-            let reads: Vec<Vec<u8>> = (0..next(25))
-                .map(|_| {
-                    let mut read =
-                        letters_of_bytes(&strand_bytes(next(7), &[next(3) as u8 * 77], 2));
-                    match next(8) {
-                        0 => read.truncate(next(28) as usize),
-                        1 => read[next(28) as usize] = b'N',
-                        2 => read[next(28) as usize] = b'C',
-                        _ => (),
-                    }
-                    read
-                })
-                .collect();
-
-            let mut shelf = lent.clone();
-            let mut count = 0;
-            for read in &reads {
-                match shelve(&loose, read, &mut shelf, count) {
-                    Ok(Shelved::Accepted { count: after }) => count = after,
-                    Ok(Shelved::Repeat { count: after }) => assert_eq!(after, count),
-                    Err(_) => (),
-                }
-            }
-
-            let mut kept: Vec<(u32, u8)> = Vec::new();
-            for read in &reads {
-                if let Ok(droplet) = read_check(&loose, read) {
-                    if kept.iter().all(|&(seed, _)| seed != droplet.seed) {
-                        kept.push((droplet.seed, droplet.payload[0]));
-                    }
-                }
-            }
-            kept.truncate(lent.len() / 5);
-            let mut expected = lent.clone();
-            for (i, &(seed, payload)) in kept.iter().enumerate() {
-                expected[5 * i..5 * i + 4].copy_from_slice(&seed.to_be_bytes());
-                expected[5 * i + 4] = payload;
-            }
-            assert_eq!(count, kept.len());
-            assert_eq!(shelf, expected);
-        }
     }
 }

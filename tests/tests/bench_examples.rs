@@ -1,6 +1,7 @@
 //! Every bench example of document 01, over the public calls alone, in its
 //! order; then the examples of document 02, Item 1, card P cut as in Item 2, its
-//! strands mended as in Item 3, and with a fourth field as in Item 14.
+//! strands mended as in Item 3 and shelved as in Item 5, and with a fourth field as in
+//! Item 14.
 
 use second::check_bytes_letters_screen::{
     check_bytes, check_sums, count_gc, letters_of_bytes, longest_run, strand_bytes,
@@ -188,6 +189,10 @@ fn reads_of_seeds_2_1_3() {
         assert_eq!(after, count + 1);
         count = after;
     }
+    // Document 02, Item 5: a state byte after each payload, 0 for clean.
+    let records = hex("00000002 69 00 / 00000001 E4 00 / 00000003 27 00");
+    assert_eq!(shelf[..18], records);
+    assert_eq!(shelf[18..], [0xFF; 82]);
     let mut file = [0xFF; 4];
     let mut marks = [0xFF; 4];
     let answer = restore(&p, &shelf, count, &mut file, &mut marks, &mut [0; 2]);
@@ -254,7 +259,7 @@ fn answer_at_m_3(seed: u32, strand: &str) -> Result<(), Refusal> {
         assert_eq!((droplet.seed, droplet.payload[0]), (seed, 0x27));
     });
     assert_eq!(
-        shelve(&handed, read, &mut [0; 5], 0),
+        shelve(&handed, read, &mut [0; 6], 0),
         answer.map(|()| Shelved::Accepted { count: 1 })
     );
     let mut printed = [b'?'; 29];
@@ -373,6 +378,57 @@ AAAAAAAAAAAAAAAATGCAATCGTCAT
 AAAN
 ";
     assert_eq!(listing(Some(&card_p()), misread.as_bytes()), TWO_LINES);
+}
+
+/// Document 02, Item 5: "A clean read whose seed stands there as mended takes over
+/// payload and state, even where the payloads differ, and the answer is "replaced",
+/// listed as repeated. Every other read with the same payload is a repeat, and every
+/// other one with a different payload is refused under 15."
+#[test]
+fn clean_beats_mended() {
+    let card = card_p();
+    let p = handed(&card);
+    let clean: &[u8] = b"AAAAAAAAAAAAAAACTGCAATCGTCAT";
+    let mended: &[u8] = b"TAAAAAAAAAAAAAACTGCAATCGTCAT";
+    let replaced = Ok(Shelved::Replaced { count: 1 });
+    let repeat = Ok(Shelved::Repeat { count: 1 });
+    for (read, record, answer, after) in [
+        (clean, "00000001 E4 01", replaced, "00000001 E4 00"),
+        (clean, "00000001 E5 01", replaced, "00000001 E4 00"),
+        (clean, "00000001 E5 07", replaced, "00000001 E4 00"),
+        (clean, "00000001 E4 00", repeat, "00000001 E4 00"),
+        (clean, "00000001 E5 00", Err(Refusal(15)), "00000001 E5 00"),
+        (mended, "00000001 E4 00", repeat, "00000001 E4 00"),
+        (mended, "00000001 E4 01", repeat, "00000001 E4 01"),
+        (mended, "00000001 E4 07", repeat, "00000001 E4 07"),
+        (mended, "00000001 E5 00", Err(Refusal(15)), "00000001 E5 00"),
+        (mended, "00000001 E5 01", Err(Refusal(15)), "00000001 E5 01"),
+        (clean, "00000002 69 01", Err(Refusal(16)), "00000002 69 01"),
+    ] {
+        let mut shelf = hex(record);
+        assert_eq!(shelve(&p, read, &mut shelf, 1), answer, "{record}");
+        assert_eq!(shelf, hex(after), "{record}");
+    }
+}
+
+/// "The restore guarantee covers these records, not those replaced on the way": seed 1
+/// with a payload that a wrongly mended read left, and after a clean read of it.
+#[test]
+fn restored_after_replacing() {
+    let card = card_p();
+    let p = handed(&card);
+    let mut shelf = hex("00000002 69 00 / 00000001 E5 01 / 00000003 27 00");
+    let restored = |shelf: &[u8]| {
+        let (mut file, mut marks) = ([0xFF; 4], [0xFF; 4]);
+        let sheet = restore(&p, shelf, 3, &mut file, &mut marks, &mut [0; 2]).unwrap();
+        assert_eq!((sheet.present, sheet.sweeps), (3, 3));
+        assert_eq!((sheet.contradictions, marks), (0, [0, 1, 1, 1]));
+        file.to_vec()
+    };
+    assert_eq!(restored(&shelf), hex("00 27 4E E5"));
+    let answer = shelve(&p, b"AAAAAAAAAAAAAAACTGCAATCGTCAT", &mut shelf, 3);
+    assert_eq!(answer, Ok(Shelved::Replaced { count: 3 }));
+    assert_eq!(restored(&shelf), hex("00 27 4E E4"));
 }
 
 /// Card P with W = 3, and its weights apart from the field. Document 02, Item 14:

@@ -232,17 +232,11 @@ impl Case {
         let whole = k * usize::from(self.numbers.l);
         shelves::note(regions, record, self.store.len(), self.count, after.number);
         match after.number {
-            0 => self.note_restored(regions, after.answer, whole),
-            17 => {
-                let zeros: Vec<usize> = (0..self.count)
-                    .filter(|i| self.store[i * record..i * record + 4] == [0; 4])
-                    .collect();
-                regions.note_if(self.count > 1 && zeros == [0], "17: the first record alone");
-                regions.note_if(
-                    self.count > 1 && zeros == [self.count - 1],
-                    "17: the last record alone",
-                );
+            0 => {
+                self.note_restored(regions, after.answer, whole);
+                self.note_states(regions, after.answer);
             }
+            17 => self.note_seed_0(regions),
             18 => {
                 regions.note_if(
                     self.file.len() + 1 == whole && self.marks.len() >= k,
@@ -259,6 +253,22 @@ impl Case {
             }
             _ => (),
         }
+    }
+
+    /// Notes which records have seed 0.
+    fn note_seed_0(&self, regions: &mut Regions) {
+        let record = self.numbers.record();
+        let zeros: Vec<usize> = (0..self.count)
+            .filter(|i| self.store[i * record..i * record + 4] == [0; 4])
+            .collect();
+        regions.note_if(self.count > 1 && zeros == [0], "17: the first record alone");
+        regions.note_if(
+            self.count > 1 && zeros == [self.count - 1],
+            "17: the last record alone",
+        );
+        let clean = |i: &usize| self.store[(i + 1) * record - 1] == 0;
+        regions.note_if(zeros.iter().all(clean), "17: clean records alone");
+        regions.note_if(!zeros.iter().any(clean), "17: mended records alone");
     }
 
     fn note_restored(&self, regions: &mut Regions, answer: [u64; 3], whole: usize) {
@@ -312,6 +322,47 @@ impl Case {
     }
 }
 
+impl Case {
+    /// Notes what states the records have, none of which is looked at. Where all have one, all that is present or contradicts
+    /// comes of records with that one.
+    fn note_states(&self, regions: &mut Regions, answer: [u64; 3]) {
+        let [present, _, contradictions] = answer;
+        let record = self.numbers.record();
+        let records = self.store.chunks_exact(record).take(self.count);
+        let states: Vec<u8> = records.map(|there| there[record - 1]).collect();
+        let Some(&first) = states.first() else {
+            return;
+        };
+        let of = match first {
+            _ if states.iter().any(|&state| state != first) => "of different states",
+            0 => "of state 0",
+            1 => "of state 1",
+            255 => "of state 255",
+            _ => "of another state",
+        };
+        regions.note_if(present > 0, &format!("present by records {of}"));
+        regions.note_if(
+            present == self.numbers.k() as u64,
+            &format!("all present by records {of}"),
+        );
+        regions.note_if(
+            contradictions > 0,
+            &format!("contradictions by records {of}"),
+        );
+    }
+}
+
+#[rustfmt::skip]
+const STATE_REGIONS: &[&str] = &[
+    "present by records of state 0", "present by records of state 1", "present by records of state 255",
+    "present by records of another state", "present by records of different states",
+    "all present by records of state 0", "all present by records of state 1", "all present by records of state 255",
+    "all present by records of another state", "all present by records of different states",
+    "contradictions by records of state 0", "contradictions by records of state 1", "contradictions by records of state 255",
+    "contradictions by records of another state", "contradictions by records of different states",
+    "17: clean records alone", "17: mended records alone",
+];
+
 #[rustfmt::skip]
 const REGIONS: &[&str] = &[
     "answer 8", "answer 17", "answer 18", "17: the first record alone", "17: the last record alone", "18: file a byte short",
@@ -349,10 +400,11 @@ fn any_shelf(random: &mut Random, numbers: &Numbers) -> (Vec<u8>, usize) {
             records[i] = records[random.below(i)].clone();
         }
         if random.once_in(changed_once_in) {
-            let place = random.between(4, record - 1);
+            let place = random.between(4, record - 2);
             records[i][place] ^= 1 << random.below(8);
         }
     }
+    give_states(random, &mut records);
     let past = random.one_of(&[0, 0, 1, record - 1, record, 2 * record + 1]);
     let mut store = records.concat();
     if random.once_in(4) {
@@ -363,7 +415,21 @@ fn any_shelf(random: &mut Random, numbers: &Numbers) -> (Vec<u8>, usize) {
     (store, count)
 }
 
-/// Records of `count` seeds over one random file. In falling order of degree, peeling takes many sweeps.
+/// Gives each record a state byte: all of them one, or each its own.
+fn give_states(random: &mut Random, records: &mut [Vec<u8>]) {
+    let of_all = shelves::any_state(random);
+    let mixed = random.once_in(2);
+    for record in records {
+        let state = if mixed {
+            shelves::any_state(random)
+        } else {
+            of_all
+        };
+        *record.last_mut().expect("a record has bytes") = state;
+    }
+}
+
+/// Records of `count` seeds over one random file, clean. In falling order of degree, peeling takes many sweeps.
 fn droplets(random: &mut Random, numbers: &Numbers, count: usize) -> Vec<Vec<u8>> {
     let (l, k) = (usize::from(numbers.l), numbers.k());
     let file = random.bytes(k * l);
@@ -378,6 +444,7 @@ fn droplets(random: &mut Random, numbers: &Numbers, count: usize) -> Vec<Vec<u8>
             &file,
             numbers.l,
         ));
+        record.push(0);
         record
     };
     seeds.iter().map(record_of).collect()
@@ -401,7 +468,7 @@ fn case(random: &mut Random, regions: &mut Regions) -> Result<(), String> {
 }
 
 /// A record of degree 1 for each of the 131,072 segments but `missing`, where degrees are 1 and 1,024 by halves: an even first
-/// draw gives degree 1, and the second draw its segment.
+/// draw gives degree 1, and the second draw its segment. Their states are any.
 fn records_of_degree_1(l: usize, file: &[u8], missing: usize) -> Vec<u8> {
     let mut here = vec![false; cards::K_MOST];
     here[missing] = true;
@@ -416,6 +483,7 @@ fn records_of_degree_1(l: usize, file: &[u8], missing: usize) -> Vec<u8> {
             left -= 1;
             store.extend(seed.to_be_bytes());
             store.extend(&file[segment * l..(segment + 1) * l]);
+            store.push(seed as u8);
         }
         if left == 0 {
             break;
@@ -439,8 +507,10 @@ fn restore_largest(l: usize) {
     for (seed, set) in seeds.iter().zip(&sets) {
         store.extend(seed.to_be_bytes());
         store.extend(payload(set, &file, numbers.l));
+        store.push(0);
     }
-    *store.last_mut().expect("there are records") ^= 1;
+    // The last byte of the last payload, before its state.
+    *store.iter_mut().nth_back(1).expect("there are records") ^= 1;
     store.extend(records_of_degree_1(
         l,
         &file,
@@ -465,6 +535,47 @@ fn restore_largest(l: usize) {
         .unwrap_or_else(|report| panic!("{report}"));
 }
 
+/// Records that fill segments over several sweeps, one that contradicts, and one of a seed that stands there before: with
+/// each state byte for all of them, and with each for one of them, the sheet is the same.
+#[test]
+fn restore_with_every_state() {
+    let random = &mut Random::of_case("restore_with_every_state", 0);
+    let mut numbers = cards::accepted(random, 3, 12, 4);
+    numbers.weights = peeling_weights(random, 4);
+    let mut records = droplets(random, &numbers, 40);
+    records[31][5] ^= 0x40;
+    records[35] = records[2].clone();
+    let mut first: Option<After> = None;
+    for state in 0..=255 {
+        for one in [None, Some(0), Some(31), Some(35), Some(39)] {
+            for (i, record) in records.iter_mut().enumerate() {
+                let is_one = one.is_none_or(|one| one == i);
+                *record.last_mut().expect("a record has bytes") = if is_one { state } else { 0 };
+            }
+            let case = Case {
+                numbers: numbers.clone(),
+                store: records.concat(),
+                count: records.len(),
+                file: vec![0xAB; 12 * 3 + 2],
+                marks: vec![0xCD; 12 + 2],
+                list: vec![7; 6],
+                answer: [9; 3],
+            };
+            let expected = case.expected();
+            case.compare(random, &mut Regions::default(), &expected)
+                .unwrap_or_else(|report| panic!("{report}"));
+            let first = first.get_or_insert(case.expected());
+            assert_eq!((expected.number, expected.answer), (0, first.answer));
+            assert_eq!(
+                (expected.file, expected.marks),
+                (first.file.clone(), first.marks.clone())
+            );
+        }
+    }
+    let [present, sweeps, contradictions] = first.expect("there are states").answer;
+    assert!(present == 12 && sweeps > 2 && contradictions == 1);
+}
+
 #[test]
 fn restore_largest_by_1() {
     restore_largest(1);
@@ -485,6 +596,7 @@ fn restore() {
             sizes::REGIONS,
             shelves::REGIONS,
             REGIONS,
+            STATE_REGIONS,
         ],
         case,
     );

@@ -10,6 +10,8 @@ use differential::reads::{self, Read};
 use differential::run::{run, Regions};
 use differential::shelves;
 use differential::wrong_bytes;
+use second::check_bytes_letters_screen::letters_of_bytes;
+use second::clean_beats_mended::records_after_a_list;
 use second::{Droplet, Shelved};
 
 #[cfg(capi_missing)]
@@ -57,16 +59,7 @@ impl Case {
     fn any(random: &mut Random) -> Case {
         let mut numbers = cards::any_accepted(random);
         let read = reads::any_read(random, &mut numbers);
-        let offered = match second::read_check(&numbers.handed(), &read.letters) {
-            Ok(droplet) => (
-                droplet.seed,
-                droplet.payload[..usize::from(numbers.l)].to_vec(),
-            ),
-            Err(_) => (
-                reads::any_seed(random),
-                reads::any_payload(random, usize::from(numbers.l)),
-            ),
-        };
+        let offered = offered_by(&numbers, &read);
         let (mut store, mut count) = any_shelf(random, &numbers, &offered);
         if random.once_in(12) {
             count = shelves::too_many(random, numbers.record(), store.len());
@@ -96,6 +89,7 @@ impl Case {
         ) {
             Ok(Shelved::Accepted { count }) => (0, [0, count as u64]),
             Ok(Shelved::Repeat { count }) => (0, [1, count as u64]),
+            Ok(Shelved::Replaced { count }) => (0, [2, count as u64]),
             Err(refusal) => (refusal.0.into(), self.answer),
         };
         After {
@@ -195,88 +189,360 @@ impl Case {
             regions.note_if(too_many, "27: 14 too");
             regions.note_if(!too_many, "27: 14 fine");
         }
-        if ![0, 15, 16].contains(&after.number) {
-            return;
+        match after.number {
+            0 | 15 | 16 => {
+                let droplet = self.droplet();
+                Met::of(self, &droplet).note(regions, after);
+            }
+            2 => (),
+            _ => self.note_refused(regions, after.number),
         }
-        let droplet = self.droplet();
+    }
+
+    /// Notes what stands on the shelf of the seed that was printed, where a question before 15 says no.
+    fn note_refused(&self, regions: &mut Regions, number: u32) {
+        let record = self.numbers.record();
+        let mut records = self.store.chunks_exact(record).take(self.count);
+        if let Some(there) = records.find(|there| there[..4] == self.read.printed[..4]) {
+            let is_clean = self.read.letters == letters_of_bytes(&self.read.printed);
+            let read = if is_clean { "clean" } else { "misread" };
+            let there = state_of(there[record - 1]);
+            regions.note(&format!("{number}: {read}, its record {there}"));
+        }
+    }
+}
+
+/// Seed and payload that a read comes to the shelf with, if it is legal, or that were printed.
+fn offered_by(numbers: &Numbers, read: &Read) -> (u32, Vec<u8>) {
+    let l = usize::from(numbers.l);
+    match second::read_check(&numbers.handed(), &read.letters) {
+        Ok(droplet) => (droplet.seed, droplet.payload[..l].to_vec()),
+        Err(_) => {
+            let [a, b, c, d] = [0, 1, 2, 3].map(|i| read.printed[i]);
+            let payload = read.printed[4..4 + l].to_vec();
+            (u32::from_be_bytes([a, b, c, d]), payload)
+        }
+    }
+}
+
+/// How a state byte reads.
+fn state_of(byte: u8) -> &'static str {
+    match byte {
+        0 => "clean",
+        _ => "mended",
+    }
+}
+
+/// What a legal read meets on the shelf.
+struct Met<'a> {
+    case: &'a Case,
+    seed: [u8; 4],
+    payload: &'a [u8],
+    /// How many of its bytes were mended.
+    mended: usize,
+    /// Which part of it they all stand in, if it is one.
+    mended_in: Option<&'static str>,
+    /// The whole records of the buffer, those past the count too.
+    records: Vec<&'a [u8]>,
+    /// The places of those of its seed, before the count.
+    of_seed: Vec<usize>,
+}
+
+impl<'a> Met<'a> {
+    fn of(case: &'a Case, droplet: &'a Droplet) -> Met<'a> {
         let seed = droplet.seed.to_be_bytes();
-        let payload = &droplet.payload[..usize::from(self.numbers.l)];
-        let on_shelf: Vec<&[u8]> = self.store.chunks_exact(record).collect();
-        let of_seed: Vec<&[u8]> = on_shelf[..self.count]
-            .iter()
-            .copied()
-            .filter(|there| there[..4] == seed)
+        let records: Vec<&[u8]> = case.store.chunks_exact(case.numbers.record()).collect();
+        let of_seed = (0..case.count)
+            .filter(|&place| records[place][..4] == seed)
             .collect();
-        let later = |same| {
-            of_seed
-                .iter()
-                .skip(1)
-                .any(|there| (there[4..] == *payload) == same)
-        };
-        let full = on_shelf.len() == self.count;
-        let is_mended = droplet.mended > 0;
+        Met {
+            case,
+            seed,
+            payload: &droplet.payload[..usize::from(case.numbers.l)],
+            mended: droplet.mended,
+            mended_in: wrong_bytes::part_mended(&case.numbers, &case.read),
+            records,
+            of_seed,
+        }
+    }
+
+    fn state_at(&self) -> usize {
+        self.case.numbers.record() - 1
+    }
+
+    /// How the read and the first record of its seed stand to each other: "clean over mended".
+    fn who_over_whom(&self) -> String {
+        let read = if self.mended == 0 { "clean" } else { "mended" };
+        let there = state_of(self.records[self.of_seed[0]][self.state_at()]);
+        format!("{read} over {there}")
+    }
+
+    fn note(&self, regions: &mut Regions, after: &After) {
         match (after.number, after.answer[0]) {
-            (0, 0) => {
-                regions.note("accepted");
-                regions.note_if(is_mended, "accepted, mended");
-                regions.note_if(self.count == 0, "accepted as the first");
-                regions.note_if(
-                    length == record * (self.count + 1),
-                    "accepted into the last bytes",
-                );
-                regions.note_if(
-                    on_shelf[self.count..]
-                        .iter()
-                        .any(|there| there[..4] == seed),
-                    "its seed past the count",
-                );
-                regions.note_if(self.count > 100, "accepted after 100 records");
-            }
+            (0, 0) => self.note_accepted(regions),
+            (0, 1) => self.note_there(regions, "repeat"),
             (0, _) => {
-                regions.note("repeat");
-                regions.note_if(is_mended, "repeat, mended");
-                regions.note_if(full, "repeat on a full shelf");
-                regions.note_if(later(false), "first record the same, a later one not");
+                self.note_there(regions, "replaced");
+                self.note_replaced(regions, after);
             }
-            (15, _) => {
-                regions.note_if(full, "15: on a full shelf");
-                regions.note_if(is_mended, "15: mended");
-                regions.note_if(
-                    later(true),
-                    "15: first record another, a later one the same",
-                );
-                let differing = (0..payload.len())
-                    .filter(|&i| of_seed[0][4 + i] != payload[i])
-                    .count();
-                regions.note_if(
-                    differing == 1 && of_seed[0].last() != payload.last(),
-                    "15: only the last byte differs",
-                );
-            }
+            (15, _) => self.note_there(regions, "15"),
             _ => {
-                regions.note_if(is_mended, "16: mended");
-                regions.note_if(length % record == record - 1, "16: a byte short");
+                let (record, length) = (self.case.numbers.record(), self.case.store.len());
+                regions.note_if(self.mended > 0, "16: mended");
+                regions.note_if(self.mended == 0, "16: clean");
+                regions.note_if(
+                    length % record == record - 1,
+                    "16: a byte short, space but for the state",
+                );
                 regions.note_if(length % record == 0, "16: no byte left");
             }
         }
+    }
+
+    fn note_accepted(&self, regions: &mut Regions) {
+        let (case, record) = (self.case, self.case.numbers.record());
+        let last = case.store.len() == record * (case.count + 1);
+        regions.note("accepted");
+        regions.note(&format!("accepted, bytes mended {}", self.mended));
+        if let Some(part) = self.mended_in {
+            regions.note(&format!("accepted, mended in the {part} alone"));
+        }
+        regions.note_if(case.count == 0, "accepted as the first");
+        regions.note_if(last, "accepted into the last bytes");
+        regions.note_if(
+            last && self.mended > 0,
+            "accepted into the last bytes, mended",
+        );
+        regions.note_if(case.count > 100, "accepted after 100 records");
+        let past = &self.records[case.count..];
+        regions.note_if(
+            past.iter().any(|there| there[..4] == self.seed),
+            "its seed past the count",
+        );
+        regions.note_if(
+            past[0][..self.state_at()] == [&self.seed, self.payload].concat(),
+            "its seed and payload just past the count",
+        );
+        let lent = match past[0][self.state_at()] {
+            0 => "0",
+            1 => "1",
+            _ => "another byte",
+        };
+        let read = if self.mended == 0 { "clean" } else { "mended" };
+        regions.note(&format!(
+            "accepted, {read}, where the state was lent as {lent}"
+        ));
+    }
+
+    /// What a record's payload is beside the read's.
+    fn payload_of(&self, place: usize) -> &'static str {
+        if self.records[place][4..self.state_at()] == *self.payload {
+            "same payload"
+        } else {
+            "other payload"
+        }
+    }
+
+    /// Notes what the first record of its seed is, and how it was answered.
+    fn note_there(&self, regions: &mut Regions, answer: &str) {
+        let place = self.of_seed[0];
+        let over = format!("{answer}: {}", self.who_over_whom());
+        let same = self.payload_of(place);
+        regions.note(&format!("{over}, {same}"));
+        let state = match self.records[place][self.state_at()] {
+            state @ (0..=2 | 7 | 128 | 255) => state.to_string(),
+            _ => String::from("of another byte"),
+        };
+        regions.note(&format!("{over}, {same}, state {state}"));
+        regions.note(&format!("{over}, bytes mended {}", self.mended));
+        if let Some(part) = self.mended_in {
+            regions.note(&format!("{over}, mended in the {part} alone"));
+        }
+        self.note_places(regions, &over, place);
+        self.note_neighbours(regions, &over, place);
+        self.note_differing(regions, &over, place);
+    }
+
+    /// Notes where it stands, and what other records of its seed there are.
+    fn note_places(&self, regions: &mut Regions, over: &str, place: usize) {
+        let count = self.case.count;
+        let is_full = self.records.len() == count;
+        regions.note_if(is_full, &format!("{over}, full shelf"));
+        regions.note_if(place > 100, &format!("{over}, after 100 records"));
+        regions.note_if(
+            place == 0 && count > 1,
+            &format!("{over}, the first of them"),
+        );
+        regions.note_if(
+            place > 0 && place + 1 == count,
+            &format!("{over}, the last of them"),
+        );
+        for &later in &self.of_seed[1..] {
+            let state = state_of(self.records[later][self.state_at()]);
+            let payload = self.payload_of(later);
+            regions.note(&format!("{over}, a later one {state}"));
+            regions.note(&format!("{over}, a later one with the {payload}"));
+        }
+    }
+
+    /// Notes bytes beside the state byte that say another thing, if they were taken for it.
+    fn note_neighbours(&self, regions: &mut Regions, over: &str, place: usize) {
+        let is_0 = |byte: &u8| *byte == 0;
+        let record = self.records[place];
+        let beyond = (place + 1) * self.case.numbers.record();
+        let state_is_0 = is_0(&record[self.state_at()]);
+        let payload_says_other = is_0(&record[self.state_at() - 1]) != state_is_0;
+        regions.note_if(
+            payload_says_other,
+            &format!("{over}, last payload byte not so"),
+        );
+        let last = place + 1 == self.case.count;
+        match self.case.store.get(beyond) {
+            Some(byte) if last && is_0(byte) != state_is_0 => {
+                regions.note(&format!("{over}, the byte beyond the last record not so"));
+            }
+            None => regions.note(&format!("{over}, no byte beyond the last record")),
+            _ => (),
+        }
+    }
+
+    /// Notes where a payload differs in one byte alone.
+    fn note_differing(&self, regions: &mut Regions, over: &str, place: usize) {
+        let there = &self.records[place][4..self.state_at()];
+        let differing: Vec<usize> = (0..there.len())
+            .filter(|&i| there[i] != self.payload[i])
+            .collect();
+        regions.note_if(
+            differing == [there.len() - 1],
+            &format!("{over}, only the last byte differs"),
+        );
+        regions.note_if(
+            differing == [0] && there.len() > 1,
+            &format!("{over}, only the first byte differs"),
+        );
+    }
+
+    /// Holds what a replacement leaves to document 02's words, beside the comparison: payload and state of the first record of
+    /// the seed are the read's, and all other bytes are as they were.
+    fn note_replaced(&self, regions: &mut Regions, after: &After) {
+        let (case, record) = (self.case, self.case.numbers.record());
+        let mut kept = case.store.clone();
+        let start = self.of_seed[0] * record;
+        let taken_over = &mut kept[start + 4..start + record];
+        taken_over.copy_from_slice(&[self.payload, &[0]].concat());
+        assert_eq!(after.store, kept, "a replacement changes its record alone");
+        assert_eq!(after.answer[1], case.count as u64);
+        regions.note("replaced");
+        regions.note_if(case.numbers.l == 1, "replaced: L 1");
+        regions.note_if(case.numbers.l == 64, "replaced: L 64");
+        regions.note_if(case.numbers.r == 2, "replaced: R 2");
+        regions.note_if(case.numbers.r == 4, "replaced: R 4");
     }
 }
 
 #[rustfmt::skip]
 const REGIONS: &[&str] = &[
     "answer 15", "answer 16", "accepted", "accepted as the first", "accepted into the last bytes", "its seed past the count",
-    "accepted after 100 records", "repeat", "repeat on a full shelf", "first record the same, a later one not",
-    "15: on a full shelf", "15: first record another, a later one the same", "15: only the last byte differs",
-    "16: a byte short", "16: no byte left", "shelf NULL", "read NULL", "a list of calls", "27: 14 too", "27: 14 fine",
-    "accepted, mended", "repeat, mended", "15: mended", "16: mended", "a list: mended after clean", "a list: clean after mended",
+    "accepted into the last bytes, mended", "its seed and payload just past the count", "accepted after 100 records",
+    "accepted, bytes mended 0", "accepted, bytes mended 1", "accepted, bytes mended 2",
+    "accepted, clean, where the state was lent as 0", "accepted, clean, where the state was lent as 1",
+    "accepted, clean, where the state was lent as another byte", "accepted, mended, where the state was lent as 0",
+    "accepted, mended, where the state was lent as 1", "accepted, mended, where the state was lent as another byte",
+    "accepted, mended in the seed alone", "accepted, mended in the payload alone", "accepted, mended in the check bytes alone",
+    "16: mended", "16: clean", "16: a byte short, space but for the state", "16: no byte left",
+    "shelf NULL", "read NULL", "27: 14 too", "27: 14 fine",
+    "3: clean, its record mended", "4: clean, its record mended", "27: clean, its record mended", "14: clean, its record mended",
+    "9: misread, its record mended", "10: misread, its record mended", "11: misread, its record mended",
+    "12: clean, its record mended", "13: clean, its record mended", "13: clean, its record clean", "13: misread, its record mended",
 ];
 
-/// A record near the one that is offered: its seed, its payload, or neither; or one that differs from it by little.
+/// What is compared with the first record of its seed. A clean read of a mended one is never a repeat or refused.
+#[rustfmt::skip]
+const COMPARED_REGIONS: &[&str] = &[
+    "replaced", "replaced: L 1", "replaced: L 64", "replaced: R 2", "replaced: R 4",
+    "replaced: clean over mended, same payload", "replaced: clean over mended, same payload, state 1",
+    "replaced: clean over mended, same payload, state 2", "replaced: clean over mended, same payload, state 7",
+    "replaced: clean over mended, same payload, state 128", "replaced: clean over mended, same payload, state 255",
+    "replaced: clean over mended, same payload, state of another byte",
+    "replaced: clean over mended, other payload", "replaced: clean over mended, other payload, state 1",
+    "replaced: clean over mended, other payload, state 2", "replaced: clean over mended, other payload, state 7",
+    "replaced: clean over mended, other payload, state 128", "replaced: clean over mended, other payload, state 255",
+    "replaced: clean over mended, other payload, state of another byte",
+    "repeat: clean over clean, same payload, state 0", "repeat: mended over clean, same payload, state 0",
+    "repeat: mended over mended, same payload, state 1", "repeat: mended over mended, same payload, state 2",
+    "repeat: mended over mended, same payload, state 7", "repeat: mended over mended, same payload, state 128",
+    "repeat: mended over mended, same payload, state 255",
+    "repeat: mended over mended, same payload, state of another byte",
+    "repeat: mended over clean, bytes mended 1", "repeat: mended over clean, bytes mended 2",
+    "repeat: mended over mended, bytes mended 1", "repeat: mended over mended, bytes mended 2",
+    "15: clean over clean, other payload, state 0", "15: mended over clean, other payload, state 0",
+    "15: mended over mended, other payload, state 1", "15: mended over mended, other payload, state 2",
+    "15: mended over mended, other payload, state 7", "15: mended over mended, other payload, state 128",
+    "15: mended over mended, other payload, state 255",
+    "15: mended over mended, other payload, state of another byte",
+    "15: mended over clean, bytes mended 1", "15: mended over clean, bytes mended 2",
+    "15: mended over mended, bytes mended 1", "15: mended over mended, bytes mended 2",
+];
+
+/// Each of these ways of a mended read and a record of its seed to meet, with what was mended in one part alone.
+#[rustfmt::skip]
+const MENDED_WAYS: &[&str] = &[
+    "repeat: mended over clean", "repeat: mended over mended", "15: mended over clean", "15: mended over mended",
+];
+
+#[rustfmt::skip]
+const PARTS: &[&str] = &["mended in the seed alone", "mended in the payload alone", "mended in the check bytes alone"];
+
+/// Each way of reads and records of one seed to meet, in every one of the places below.
+#[rustfmt::skip]
+const WAYS: &[&str] = &[
+    "replaced: clean over mended", "repeat: clean over clean", "repeat: mended over clean", "repeat: mended over mended",
+    "15: clean over clean", "15: mended over clean", "15: mended over mended",
+];
+
+#[rustfmt::skip]
+const PLACES: &[&str] = &[
+    "full shelf", "the first of them", "the last of them", "after 100 records",
+    "a later one clean", "a later one mended", "a later one with the same payload", "a later one with the other payload",
+    "last payload byte not so", "the byte beyond the last record not so", "no byte beyond the last record",
+];
+
+/// Where payloads differ.
+#[rustfmt::skip]
+const DIFFERING: &[&str] = &["only the last byte differs", "only the first byte differs"];
+
+/// The regions of every way in every place.
+fn regions_of_ways() -> Vec<String> {
+    let mut regions = Vec::new();
+    for way in MENDED_WAYS {
+        for part in PARTS {
+            regions.push(format!("{way}, {part}"));
+        }
+    }
+    for way in WAYS {
+        for place in PLACES {
+            regions.push(format!("{way}, {place}"));
+        }
+        for place in DIFFERING.iter().filter(|_| !way.starts_with("repeat")) {
+            regions.push(format!("{way}, {place}"));
+        }
+    }
+    regions
+}
+
+/// What lists of calls meet that single calls do not show.
+#[rustfmt::skip]
+const LIST_REGIONS: &[&str] = &[
+    "a list of calls", "a list: mended after clean", "a list: clean after mended, same payload",
+    "a list: clean after mended, other payload", "a list: wrongly mended, accepted", "a list: wrongly mended, replaced by the printed one",
+    "a list: replaced, then repeat, clean", "a list: replaced, then repeat, mended", "a list: replaced, then 15, clean",
+    "a list: replaced, then 15, mended", "a list: replaced, then the mended one from before is 15",
+    "a list: records clean and mended at its end", "a list: refused under 16 and replaced",
+];
+
+/// A record near the one that is offered: its seed, its payload, or neither; or one that differs from it by little. Any state.
 fn any_record(random: &mut Random, (seed, payload): &(u32, Vec<u8>)) -> Vec<u8> {
     let near = seed ^ 1 << random.below(32);
-    let mut bytes = payload.clone();
-    let anywhere = random.below(bytes.len());
-    let place = random.one_of(&[0, bytes.len() - 1, anywhere]);
     let other = reads::any_seed(random);
     let seed = match random.below(8) {
         0 | 1 => *seed,
@@ -284,110 +550,242 @@ fn any_record(random: &mut Random, (seed, payload): &(u32, Vec<u8>)) -> Vec<u8> 
         4 => 0,
         _ => other,
     };
-    match random.below(3) {
-        0 => bytes[place] ^= 1 << random.below(8),
-        1 => bytes = random.bytes(bytes.len()),
+    record_of(random, seed, payload)
+}
+
+/// A record of this seed, with the payload, one that differs from it in a bit, or any. Any state.
+fn record_of(random: &mut Random, seed: u32, payload: &[u8]) -> Vec<u8> {
+    let mut bytes = payload.to_vec();
+    let anywhere = random.below(bytes.len());
+    let place = random.one_of(&[0, bytes.len() - 1, anywhere]);
+    match random.below(5) {
+        0 | 1 => bytes[place] ^= 1 << random.below(8),
+        2 => bytes = random.bytes(bytes.len()),
         _ => (),
     }
     let mut record = seed.to_be_bytes().to_vec();
     record.extend(bytes);
+    record.push(shelves::any_state(random));
     record
 }
 
-/// A shelf and its count: records that may have the offered one's seed or payload, then more of them past the count.
+/// A shelf and its count: records that may have the offered one's seed or payload, then more of them past the count. On some
+/// shelves no record has the seed, on some just one.
 fn any_shelf(random: &mut Random, numbers: &Numbers, offered: &(u32, Vec<u8>)) -> (Vec<u8>, usize) {
-    let count = if random.once_in(1000) {
-        random.between(100, 3000)
+    let many = random.once_in(200);
+    let count = if many {
+        random.between(100, 1500)
     } else {
         random.below(9)
     };
-    let strangers = random.once_in(2);
-    let mut store = Vec::new();
+    let strangers = many || random.once_in(2);
+    let mut records = Vec::new();
     for _ in 0..count {
         let mut record = any_record(random, offered);
         if strangers && record[..4] == offered.0.to_be_bytes() {
             record[random.below(4)] ^= 0x10;
         }
-        store.extend(record);
+        records.push(record);
+    }
+    if strangers && count > 0 && random.below(3) < if many { 2 } else { 1 } {
+        let anywhere = random.below(count);
+        let place = random.one_of(&[anywhere, count - 1]);
+        records[place] = record_of(random, offered.0, &offered.1);
     }
     for _ in 0..random.one_of(&[0, 0, 1, 1, 2]) {
-        store.extend(any_record(random, offered));
+        records.push(any_record(random, offered));
     }
+    let mut store = records.concat();
     let slack = random.one_of(&[0, 0, 1, numbers.record() - 1]);
-    store.extend(random.bytes(slack));
+    if random.once_in(3) {
+        store.extend(vec![0; slack]);
+    } else {
+        store.extend(random.bytes(slack));
+    }
     (store, count)
 }
 
+/// A legal read of a list, and how it was answered.
+struct Offered {
+    droplet: Droplet,
+    /// Whether it was mended to another payload than that of the strand as it was printed.
+    wrongly: bool,
+    printed: Vec<u8>,
+    number: u32,
+    /// If it was not refused: 0 accepted, 1 repeat, 2 replaced.
+    what: u64,
+}
+
 /// A list of calls from an empty shelf, each handed what the one before left.
-fn list_of_calls(random: &mut Random, regions: &mut Regions) -> Result<(), String> {
-    let mut numbers = cards::any_accepted(random);
-    (numbers.m, numbers.lo, numbers.hi) = (20, 0, 1000);
-    let record = numbers.record();
-    let length = random.below(6) * record + random.below(record);
-    let mut store = random.bytes(length);
-    let mut count = 0;
-    let mut droplets: Vec<(u32, Vec<u8>)> = Vec::new();
-    let mut accepted: Vec<(u32, usize)> = Vec::new();
-    for _ in 0..random.between(2, 9) {
-        let mut droplet = (
-            reads::any_seed(random),
-            random.bytes(usize::from(numbers.l)),
-        );
-        if !droplets.is_empty() && random.once_in(2) {
-            let earlier = &droplets[random.below(droplets.len())];
-            droplet = (
-                earlier.0,
-                if random.once_in(3) {
-                    droplet.1
-                } else {
-                    earlier.1.clone()
-                },
-            );
+struct List {
+    numbers: Numbers,
+    lent: Vec<u8>,
+    store: Vec<u8>,
+    count: usize,
+    /// Seeds and payloads to choose from again.
+    known: Vec<(u32, Vec<u8>)>,
+    reads: Vec<Vec<u8>>,
+    offered: Vec<Offered>,
+}
+
+impl List {
+    fn any(random: &mut Random) -> List {
+        let mut numbers = cards::any_accepted(random);
+        (numbers.m, numbers.lo, numbers.hi) = (20, 0, 1000);
+        let record = numbers.record();
+        let length = random.below(6) * record + random.below(record);
+        let lent = random.bytes(length);
+        List {
+            numbers,
+            store: lent.clone(),
+            lent,
+            count: 0,
+            known: Vec::new(),
+            reads: Vec::new(),
+            offered: Vec::new(),
         }
-        let mut read = Read::of(&numbers, droplet.0, &droplet.1);
-        droplets.push(droplet);
-        match random.below(12) {
-            0 | 1 => reads::damage(random, &numbers, &mut read.letters),
-            2..=5 => wrong_bytes::misread(random, &numbers, &mut read),
+    }
+
+    /// A read of a new seed or of one from before, with a payload from before or another one: clean, misread or damaged.
+    fn any_read(&mut self, random: &mut Random) -> Read {
+        let l = usize::from(self.numbers.l);
+        let (mut seed, mut payload) = (reads::any_seed(random), random.bytes(l));
+        if !self.known.is_empty() && !random.once_in(3) {
+            seed = self.known[random.below(self.known.len())].0;
+            let of_seed: Vec<_> = self.known.iter().filter(|known| known.0 == seed).collect();
+            if !random.once_in(5) {
+                payload = of_seed[random.below(of_seed.len())].1.clone();
+            }
+        }
+        let mut read = Read::of(&self.numbers, seed, &payload);
+        self.known.push((seed, payload));
+        match random.below(14) {
+            0 => reads::damage(random, &self.numbers, &mut read.letters),
+            1..=4 => wrong_bytes::misread(random, &self.numbers, &mut read),
+            5..=7 => wrong_bytes::misread_to_another_payload(random, &self.numbers, &mut read),
             _ => (),
         }
-        let answer = [random.number(), random.number()];
-        let case = Case {
-            numbers: numbers.clone(),
-            store,
-            count,
-            read,
-            answer,
-        };
-        let expected = case.expected();
-        case.note(regions, &expected);
-        case.compare(random, regions, &expected)?;
-        if expected.number == 0 {
-            let droplet = case.droplet();
-            if expected.answer[0] == 0 {
-                accepted.push((droplet.seed, droplet.mended));
-            } else {
-                let first = accepted.iter().find(|(seed, _)| *seed == droplet.seed);
-                let &(_, mended) = first.expect("a repeat of an accepted read");
-                regions.note_if(
-                    mended == 0 && droplet.mended > 0,
-                    "a list: mended after clean",
-                );
-                regions.note_if(
-                    mended > 0 && droplet.mended == 0,
-                    "a list: clean after mended",
-                );
-            }
-            count = expected.answer[1] as usize;
-        }
-        store = expected.store;
+        read
     }
-    regions.note("a list of calls");
+
+    /// Offers one read to the archive, and notes what it meets.
+    fn offer(&mut self, random: &mut Random, regions: &mut Regions) -> Result<(), String> {
+        let read = self.any_read(random);
+        self.reads.push(read.letters.clone());
+        let case = Case {
+            numbers: self.numbers.clone(),
+            store: self.store.clone(),
+            count: self.count,
+            read,
+            answer: [random.number(), random.number()],
+        };
+        let after = case.expected();
+        case.note(regions, &after);
+        case.compare(random, regions, &after)?;
+        if after.number == 0 {
+            self.count = after.answer[1] as usize;
+        }
+        if [0, 15, 16].contains(&after.number) {
+            self.remember(regions, &case, &after);
+        }
+        self.store = after.store;
+        Ok(())
+    }
+
+    fn remember(&mut self, regions: &mut Regions, case: &Case, after: &After) {
+        let droplet = case.droplet();
+        let l = usize::from(self.numbers.l);
+        let printed = case.read.printed[4..4 + l].to_vec();
+        let payload = &droplet.payload[..l];
+        self.known.push((droplet.seed, payload.to_vec()));
+        let offered = Offered {
+            droplet,
+            wrongly: droplet.seed.to_be_bytes() == case.read.printed[..4] && printed != payload,
+            printed,
+            number: after.number,
+            what: after.answer[0],
+        };
+        self.note_read(regions, &offered);
+        self.offered.push(offered);
+    }
+
+    /// Notes what a read comes after: the one that was accepted of its seed, and the one that took its place.
+    fn note_read(&self, regions: &mut Regions, now: &Offered) {
+        let before = |what: u64| {
+            self.offered.iter().find(|offered| {
+                offered.droplet.seed == now.droplet.seed
+                    && (offered.number, offered.what) == (0, what)
+            })
+        };
+        let is_mended = now.droplet.mended > 0;
+        let Some(accepted) = before(0) else {
+            regions.note_if(
+                now.wrongly && now.number == 0,
+                "a list: wrongly mended, accepted",
+            );
+            return;
+        };
+        regions.note_if(
+            is_mended && accepted.droplet.mended == 0,
+            "a list: mended after clean",
+        );
+        let same = accepted.droplet.payload == now.droplet.payload;
+        if (now.number, now.what) == (0, 2) {
+            let payload = if same { "same" } else { "other" };
+            regions.note(&format!("a list: clean after mended, {payload} payload"));
+            regions.note_if(
+                accepted.wrongly && now.droplet.payload.starts_with(&accepted.printed),
+                "a list: wrongly mended, replaced by the printed one",
+            );
+        }
+        if before(2).is_some() {
+            let then = if now.number == 15 { "15" } else { "repeat" };
+            let read = if is_mended { "mended" } else { "clean" };
+            regions.note(&format!("a list: replaced, then {then}, {read}"));
+            regions.note_if(
+                now.number == 15 && is_mended && same,
+                "a list: replaced, then the mended one from before is 15",
+            );
+        }
+    }
+
+    /// The shelf at the end is what demand 3 says of the reads offered.
+    fn note_end(&self, regions: &mut Regions) {
+        let record = self.numbers.record();
+        let fit = self.lent.len() / record;
+        let records = records_after_a_list(&self.numbers.handed(), &self.reads, fit);
+        let mut expected = records.concat();
+        expected.extend(&self.lent[expected.len()..]);
+        assert_eq!((self.count, &self.store), (records.len(), &expected));
+        regions.note("a list of calls");
+        let states: Vec<u8> = records.iter().map(|there| there[record - 1]).collect();
+        regions.note_if(
+            states.contains(&0) && states.contains(&1),
+            "a list: records clean and mended at its end",
+        );
+        let was = |number: u32, what: Option<u64>| {
+            self.offered.iter().any(|offered| {
+                offered.number == number && what.is_none_or(|what| offered.what == what)
+            })
+        };
+        regions.note_if(
+            was(0, Some(2)) && was(16, None),
+            "a list: refused under 16 and replaced",
+        );
+    }
+}
+
+fn list_of_calls(random: &mut Random, regions: &mut Regions) -> Result<(), String> {
+    let mut list = List::any(random);
+    for _ in 0..random.between(2, 12) {
+        list.offer(random, regions)?;
+    }
+    list.note_end(regions);
     Ok(())
 }
 
 fn case(random: &mut Random, regions: &mut Regions) -> Result<(), String> {
-    if random.once_in(12) {
+    if random.once_in(18) {
         return list_of_calls(random, regions);
     }
     let case = Case::any(random);
@@ -398,6 +796,8 @@ fn case(random: &mut Random, regions: &mut Regions) -> Result<(), String> {
 
 #[test]
 fn store() {
+    let ways = regions_of_ways();
+    let ways: Vec<&str> = ways.iter().map(String::as_str).collect();
     run(
         "store",
         &[
@@ -409,6 +809,9 @@ fn store() {
             wrong_bytes::REGIONS,
             shelves::REGIONS,
             REGIONS,
+            COMPARED_REGIONS,
+            &ways,
+            LIST_REGIONS,
         ],
         case,
     );

@@ -408,7 +408,7 @@ AAAN
 
 #[test]
 fn full_shelf() {
-    // 65,536 bytes hold 963 records of 68 bytes; the reads past them are refused, repeats of those on the shelf are not.
+    // 65,536 bytes hold 949 records of 69 bytes; the reads past them are refused, repeats of those on the shelf are not.
     let card = card_with(64, 64, 1);
     let mut input = Vec::new();
     for seed in (1..=1_000u32).chain(1..=10) {
@@ -418,7 +418,7 @@ fn full_shelf() {
     let sheet = "segments 1 present 1 sweeps 2 contradictions 0\n";
     assert_eq!(
         run("full", Some(&card), &input),
-        reads(1_010, 963, 10, 37) + sheet
+        reads(1_010, 949, 10, 51) + sheet
     );
 }
 
@@ -442,6 +442,79 @@ fn contradictory_reads() {
     assert_eq!(
         run("contradiction", Some(&card), &lines.join(&b'\n')),
         reads(2, 2, 0, 0) + sheet
+    );
+}
+
+/// A read of this strand with its first byte wrong.
+fn misread(seed: u32, payload: &[u8]) -> Vec<u8> {
+    let mut bytes = strand_bytes(seed, payload, 4);
+    bytes[0] ^= 0x21;
+    letters_of_bytes(&bytes)
+}
+
+#[test]
+fn clean_beats_mended() {
+    // One segment, seen by two seeds. Of the second one there is a read that was mended to another byte, which contradicts.
+    let card = card_with(1, 1, 1);
+    let (first, other) = (0x1234_5678, 0x8765_4321);
+    let mut lines = vec![legal(first, &[0x1B]), misread(other, &[0x2B])];
+    let mut input = lines.join(&b'\n');
+    let sheet =
+        |contradictions| format!("segments 1 present 1 sweeps 2 contradictions {contradictions}\n");
+    assert_eq!(
+        run("mended", Some(&card), &input),
+        reads(2, 2, 0, 0) + &sheet(1)
+    );
+    // A mended read with the right byte is refused, and a clean one takes its place, listed as repeated.
+    lines.push(misread(other, &[0x1B]));
+    input = lines.join(&b'\n');
+    assert_eq!(
+        run("mended-15", Some(&card), &input),
+        reads(3, 2, 0, 1) + &sheet(1)
+    );
+    lines.push(legal(other, &[0x1B]));
+    input = lines.join(&b'\n');
+    assert_eq!(
+        run("replaced", Some(&card), &input),
+        reads(4, 2, 1, 1) + &sheet(0)
+    );
+    // After that the mended read that was there first is refused, and so is a clean one with its byte; the others are repeats.
+    lines.extend([misread(other, &[0x2B]), legal(other, &[0x2B])]);
+    lines.extend([misread(other, &[0x1B]), legal(other, &[0x1B])]);
+    input = lines.join(&b'\n');
+    assert_eq!(
+        run("replaced-once", Some(&card), &input),
+        reads(8, 2, 3, 3) + &sheet(0)
+    );
+}
+
+#[test]
+fn full_shelf_of_mended_reads() {
+    // 949 records that were mended to a wrong payload, then all the clean reads, those of new seeds and of the old ones in turn:
+    // the old ones are replaced, listed as repeated, and the new ones find no space. Nothing contradicts then.
+    let card = card_with(64, 64, 1);
+    let seed_of = |i: u32| i.wrapping_mul(0x9E37_79B1);
+    let mut lines: Vec<Vec<u8>> = (1..=949u32)
+        .map(|i| {
+            let mut payload = [0x1B; 64];
+            payload[0] ^= 1 + (i % 250) as u8;
+            misread(seed_of(i), &payload)
+        })
+        .collect();
+    // The first one fills the segment, and the 251st, 501st and 751st agree with it.
+    let sheet = "segments 1 present 1 sweeps 2 contradictions 945\n";
+    assert_eq!(
+        run("full-mended", Some(&card), &lines.join(&b'\n')),
+        reads(949, 949, 0, 0) + sheet
+    );
+    for i in 1..=949 {
+        lines.push(legal(seed_of(949 + i), &[0x1B; 64]));
+        lines.push(legal(seed_of(i), &[0x1B; 64]));
+    }
+    let sheet = "segments 1 present 1 sweeps 2 contradictions 0\n";
+    assert_eq!(
+        run("full-replaced", Some(&card), &lines.join(&b'\n')),
+        reads(3 * 949, 949, 949, 949) + sheet
     );
 }
 

@@ -65,6 +65,22 @@ fn cards_with_a_width() {
     }
 }
 
+/// Document 02, Item 5: a clean read after a mended one of its seed is listed as
+/// repeated, and so are those after it, mended or not.
+#[test]
+fn clean_after_mended() {
+    let input = b"TAAAAAAAAAAAAAACTGCAATCGTCAT
+AAAAAAAAAAAAAAACTGCAATCGTCAT
+AAAAAAAAAAAAAAACTGCAATCGTCAC
+AAAAAAAAAAAAAAACTGCAATCGTCAT
+";
+    assert_eq!(
+        run("clean", Some(&P), input),
+        "reads 4 accepted 1 repeated 3 refused 0\n\
+         segments 4 present 1 sweeps 2 contradictions 0\n"
+    );
+}
+
 #[test]
 fn missing_card() {
     assert_eq!(run("missing", None, b"AAAN\n"), "card 1\n");

@@ -1,6 +1,7 @@
 //! Write, read back in another order with repeats, losses and wrong bytes, shelve, restore.
 
-use second::check_bytes_letters_screen::{bytes_of_letters, letters_of_bytes};
+use second::check_bytes_letters_screen::{bytes_of_letters, check_bytes, letters_of_bytes};
+use second::clean_beats_mended::records_after_a_list;
 use second::*;
 
 fn bytes_of(weights: &[u32]) -> Vec<u8> {
@@ -52,13 +53,14 @@ fn a_file_comes_back() {
 
     for trial in 1..=20u32 {
         let mut state = trial;
-        let mut shelf = vec![0xEE; 250 * 24 + 5];
+        let mut shelf = vec![0xEE; 250 * 25 + 5];
         let mut count = 0;
         for _ in 0..400 {
             let read = strands[next(&mut state, strands.len())];
             match shelve(&handed, read, &mut shelf, count) {
                 Ok(Shelved::Accepted { count: after }) => count = after,
                 Ok(Shelved::Repeat { count: after }) => assert_eq!(after, count),
+                Ok(Shelved::Replaced { .. }) => panic!("no read is mended"),
                 Err(Refusal(number)) => assert_eq!(number, 16),
             }
         }
@@ -87,7 +89,7 @@ fn a_file_comes_back() {
     }
 
     // All strands in order: the whole file.
-    let mut shelf = vec![0; 300 * 24];
+    let mut shelf = vec![0; 300 * 25];
     let mut count = 0;
     for strand in &strands {
         let Ok(Shelved::Accepted { count: after }) = shelve(&handed, strand, &mut shelf, count)
@@ -103,8 +105,19 @@ fn a_file_comes_back() {
     assert_eq!(back[..1990], file);
 }
 
+/// A shelf of clean records with L = 20, as if all of them were mended.
+fn with_state_1(clean: &[u8]) -> Vec<u8> {
+    let mut shelf = clean.to_vec();
+    for record in shelf.chunks_exact_mut(25) {
+        assert_eq!(record[24], 0);
+        record[24] = 1;
+    }
+    shelf
+}
+
 /// Document 02, Item 3: every strand is read with as many wrong bytes as can be mended,
-/// anywhere in it. Shelf and file are those of clean reads.
+/// anywhere in it. The file is that of clean reads, and so is the shelf but for its
+/// states (Item 5), until it has the clean reads as well.
 #[test]
 fn a_misread_file_comes_back() {
     let file: Vec<u8> = (0..1990u32)
@@ -132,7 +145,7 @@ fn a_misread_file_comes_back() {
         let written = write(&handed, &file, start, 300, 100_000, &mut printed, &mut list);
         assert_eq!(written.unwrap().made, 300);
 
-        let mut clean = vec![0xEE; 300 * 24 + 1];
+        let mut clean = vec![0xEE; 300 * 25 + 1];
         let mut misread = clean.clone();
         let mut state = 7;
         for (count, line) in printed.chunks(n + 1).enumerate() {
@@ -150,12 +163,195 @@ fn a_misread_file_comes_back() {
             assert_eq!(droplet.mended, usize::from(r) / 2);
             assert_eq!(shelve(&handed, &read, &mut misread, count), accepted);
         }
-        assert_eq!(misread, clean);
+        assert_eq!(misread, with_state_1(&clean));
         let mut back = vec![0; 2000];
         let mut marks = vec![0; 100];
         let restored = restore(&handed, &misread, 300, &mut back, &mut marks, &mut list).unwrap();
         assert_eq!((restored.present, restored.contradictions), (100, 0));
         assert_eq!(back[..1990], file);
+        for line in printed.chunks(n + 1) {
+            let replaced = Ok(Shelved::Replaced { count: 300 });
+            assert_eq!(shelve(&handed, &line[..n], &mut misread, 300), replaced);
+        }
+        assert_eq!(misread, clean);
+    }
+}
+
+/// A job for the tests of clean and mended reads: no screen is missed, so that strands of
+/// wrong payloads are legal too.
+struct Job {
+    file: Vec<u8>,
+    weights: Vec<u8>,
+    r: u8,
+}
+
+impl Job {
+    fn of(r: u8) -> Job {
+        let file = (0..1990u32)
+            .map(|i| (i.wrapping_mul(2_654_435_761) >> 24) as u8)
+            .collect();
+        let mut weights = vec![60u32, 500, 170, 80, 50, 35, 25, 20];
+        weights.resize(40, 2);
+        Job {
+            file,
+            weights: bytes_of(&weights),
+            r,
+        }
+    }
+
+    fn handed(&self) -> Handed<'_> {
+        Handed {
+            f: 1990,
+            l: 20,
+            r: self.r,
+            m: 20,
+            lo: 0,
+            hi: 1000,
+            dealt: false,
+            width: 0,
+            weights: &self.weights,
+        }
+    }
+
+    /// The bytes of 300 printed strands.
+    fn printed(&self) -> Vec<Vec<u8>> {
+        let handed = self.handed();
+        let n = handed.n_bases();
+        let mut lines = vec![0; 300 * (n + 1)];
+        let start = 0xACE1_2357;
+        let written = write(
+            &handed,
+            &self.file,
+            start,
+            300,
+            100_000,
+            &mut lines,
+            &mut [0; 40],
+        );
+        assert_eq!(written.unwrap().made, 300);
+        lines
+            .chunks(n + 1)
+            .map(|line| bytes_of_letters(&line[..n]).unwrap())
+            .collect()
+    }
+
+    /// A strand misread in as many bytes as can be mended.
+    fn misread(&self, strand: &[u8], state: &mut u32) -> Vec<u8> {
+        let mut bytes = strand.to_vec();
+        for place in 0..usize::from(self.r) / 2 {
+            bytes[10 * place + next(state, 10)] ^= 1 + next(state, 255) as u8;
+        }
+        let read = letters_of_bytes(&bytes);
+        let droplet = read_check(&self.handed(), &read).unwrap();
+        assert_eq!(droplet.mended, usize::from(self.r) / 2);
+        assert_eq!(droplet.payload[..20], strand[4..24]);
+        read
+    }
+
+    /// A strand misread in one byte more, which takes it to another payload of its seed:
+    /// R/2 + 1 of the R + 1 bytes by which that strand differs from this one.
+    fn wrongly_mended(&self, strand: &[u8], state: &mut u32) -> Vec<u8> {
+        let r = usize::from(self.r);
+        let mut wrong = strand[..24].to_vec();
+        wrong[4 + next(state, 20)] ^= 1 + next(state, 255) as u8;
+        wrong.extend(check_bytes(&wrong, r));
+        let mut bytes = strand.to_vec();
+        let first = bytes.len() - r / 2 - 1;
+        bytes[first..].copy_from_slice(&wrong[first..]);
+        let read = letters_of_bytes(&bytes);
+        let droplet = read_check(&self.handed(), &read).unwrap();
+        assert_eq!(droplet.mended, r / 2);
+        assert_eq!(droplet.payload[..20], wrong[4..24]);
+        assert_ne!(wrong[4..24], strand[4..24]);
+        read
+    }
+
+    /// The file that a shelf gives, and whether nothing contradicts.
+    fn restored(&self, shelf: &[u8], count: usize) -> (Vec<u8>, bool) {
+        let (mut back, mut marks) = (vec![0; 2000], vec![0; 100]);
+        let handed = self.handed();
+        let sheet = restore(&handed, shelf, count, &mut back, &mut marks, &mut [0; 40]).unwrap();
+        assert_eq!(sheet.present, 100);
+        back.truncate(1990);
+        (back, sheet.contradictions == 0)
+    }
+}
+
+/// Document 02, Item 5: "A mended read and a clean read of one droplet are not the same
+/// evidence." Every strand comes as a wrongly mended read first, which gives a wrong
+/// file. Then the clean reads come, and whatever stood there is replaced.
+#[test]
+fn clean_reads_put_a_file_right() {
+    for r in [2, 4] {
+        let job = Job::of(r);
+        let handed = job.handed();
+        let strands = job.printed();
+        let mut state = 5;
+        let mut shelf = vec![0xEE; 300 * 25];
+        for (count, strand) in strands.iter().enumerate() {
+            let read = job.wrongly_mended(strand, &mut state);
+            let accepted = Ok(Shelved::Accepted { count: count + 1 });
+            assert_eq!(shelve(&handed, &read, &mut shelf, count), accepted);
+        }
+        let (file, agrees) = job.restored(&shelf, 300);
+        assert!(file != job.file && !agrees);
+
+        for strand in strands.iter().rev() {
+            let read = letters_of_bytes(strand);
+            let replaced = Ok(Shelved::Replaced { count: 300 });
+            assert_eq!(shelve(&handed, &read, &mut shelf, 300), replaced);
+        }
+        assert_eq!(job.restored(&shelf, 300), (job.file.clone(), true));
+        let clean: Vec<u8> = strands
+            .iter()
+            .flat_map(|strand| [&strand[..24], &[0]].concat())
+            .collect();
+        assert_eq!(shelf, clean);
+    }
+}
+
+/// Clean, mended and wrongly mended reads of all strands in mixed order: what stands on
+/// the shelf at the end is what demand 3 says of the list, and as each strand has a clean
+/// read, the file is right.
+#[test]
+fn mixed_reads_give_the_file() {
+    for trial in 0..6 {
+        let job = Job::of([2, 4][trial % 2]);
+        let handed = job.handed();
+        let mut state = 77 + trial as u32;
+        let mut reads = Vec::new();
+        for strand in job.printed() {
+            reads.push(letters_of_bytes(&strand));
+            for _ in 0..2 {
+                reads.push(job.misread(&strand, &mut state));
+                reads.push(job.wrongly_mended(&strand, &mut state));
+            }
+        }
+        for i in 0..reads.len() {
+            let other = next(&mut state, reads.len());
+            reads.swap(i, other);
+        }
+        let mut shelf = vec![0xEE; 300 * 25 + 24];
+        let (mut count, mut replaced, mut refused) = (0, 0, 0);
+        for read in &reads {
+            match shelve(&handed, read, &mut shelf, count) {
+                Ok(Shelved::Accepted { count: after }) => count = after,
+                Ok(Shelved::Repeat { count: after }) => assert_eq!(after, count),
+                Ok(Shelved::Replaced { count: after }) => {
+                    assert_eq!(after, count);
+                    replaced += 1;
+                }
+                Err(refusal) => {
+                    assert_eq!(refusal, Refusal(15));
+                    refused += 1;
+                }
+            }
+        }
+        assert!(count == 300 && (100..300).contains(&replaced) && refused > 300);
+        let expected = records_after_a_list(&handed, &reads, 300);
+        assert_eq!(shelf[..7500], expected.concat());
+        assert_eq!(shelf[7500..], [0xEE; 24]);
+        assert_eq!(job.restored(&shelf, count), (job.file.clone(), true));
     }
 }
 
@@ -207,7 +403,7 @@ fn a_dealt_file_comes_back() {
         .unwrap();
         assert_eq!((answer.stop, answer.made), (Stop::Done, 300), "{width}");
 
-        let mut shelf = vec![0; 300 * 24];
+        let mut shelf = vec![0; 300 * 25];
         let mut count = 0;
         for line in printed.chunks(113).rev() {
             let Ok(Shelved::Accepted { count: after }) =
@@ -251,7 +447,7 @@ fn the_largest_card() {
     let mut list = vec![0; 1024];
     let answer = write(&handed, &file, u32::MAX, 3, 30, &mut printed, &mut list).unwrap();
     assert_eq!((answer.stop, answer.made), (Stop::Done, 3));
-    let mut shelf = vec![0; 3 * 68];
+    let mut shelf = vec![0; 3 * 69];
     let mut count = 0;
     for line in printed.chunks(289) {
         assert_eq!(line[288], b'\n');

@@ -65,10 +65,11 @@ unfoldable pub seedReturned : List ℕ → SeedReply → Returned
 seedReturned answer (SeedReply.seed s) = returned 0 (s ∷ [])
 seedReturned answer (SeedReply.refused n) = returned n answer
 
--- storing: 0 for accepted, 1 for a repeat, and the count after it
+-- storing: 0 for accepted, 1 for a repeat, 2 for replaced, and the count after it
 unfoldable pub storeReturned : List ℕ → Stored → Returned
 storeReturned answer (Stored.accepted count) = returned 0 (0 ∷ (count ∷ []))
 storeReturned answer (Stored.repeat count) = returned 0 (1 ∷ (count ∷ []))
+storeReturned answer (Stored.replaced count) = returned 0 (2 ∷ (count ∷ []))
 storeReturned answer (Stored.refusal n) = returned n answer
 
 -- storing's C form: number and answer, and the store at exit

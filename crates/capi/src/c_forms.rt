@@ -180,6 +180,10 @@ pub extern "C" fn fountain_store(
             *answer = [1, after as u64];
             0
         }
+        StoreAnswer::Replaced(after) => {
+            *answer = [2, after as u64];
+            0
+        }
     }
 }
 

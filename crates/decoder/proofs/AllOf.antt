@@ -1,6 +1,6 @@
 -- What holds of each element of a list, of any kind, and what stands in a list. Assumes nothing.
-use mathlib.Core.Path.{refl, ap}
-use mathlib.Core.List.{List, [], _∷_, map}
+use mathlib.Core.Path.{_≡_, refl, ap}
+use mathlib.Core.List.{List, [], _∷_, _++_, map}
 use mathlib.Core.Logic.{inl, inr}
 use Prim.Native.Nat.{ℕ, zero, suc}
 use lib.ListN.{take}
@@ -22,6 +22,14 @@ module _ {A : Type 0} (P : A → Type 0) where
   all-front (suc n) [] h = tt
   all-front (suc n) (x ∷ l) h = (h .0, all-front n l (h .1))
 
+  pub all-before : (l m : List A) → All P (l ++ m) → All P l
+  all-before [] m h = tt
+  all-before (x ∷ l) m h = (h .0, all-before l m (h .1))
+
+  pub all-after : (l m : List A) → All P (l ++ m) → All P m
+  all-after [] m h = h
+  all-after (x ∷ l) m h = all-after l m (h .1)
+
   pub all-among : (l : List A) → All P l → (x : A) → Among x l → P x
   all-among [] h x a = absurd a
   all-among (y ∷ l) h x (inl q) = rw q (h .0)
@@ -40,7 +48,9 @@ among-map f [] x a = absurd a
 among-map f (y ∷ l) x (inl q) = inl (ap f q)
 among-map f (y ∷ l) x (inr a) = inr (among-map f l x a)
 
-pub among-mapped : {A B : Type 0} (f : A → B) (l l′ : List A) → AllAmong l l′ → AllAmong (map f l) (map f l′)
-among-mapped f [] l′ h y a = absurd a
-among-mapped f (x ∷ l) l′ h y (inl q) = rw q (among-map f l′ x (h x (inl refl)))
-among-mapped f (x ∷ l) l′ h y (inr a) = among-mapped f l l′ (λ z b. h z (inr b)) y a
+-- each element has one in the other list with the same image
+pub among-mapped : {A B : Type 0} (f : A → B) (l l′ : List A) → ((x : A) → Among x l → (y : A) × Among y l′ × (f x ≡ f y))
+    → AllAmong (map f l) (map f l′)
+among-mapped f [] l′ h z a = absurd a
+among-mapped f (x ∷ l) l′ h z (inl q) = let there = h x (inl refl) in rw (q, there .2) (among-map f l′ (there .0) (there .1))
+among-mapped f (x ∷ l) l′ h z (inr a) = among-mapped f l l′ (λ y b. h y (inr b)) z a

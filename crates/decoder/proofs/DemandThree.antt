@@ -3,7 +3,7 @@
 use Rattle.droplet.specs.PoolCard.{cardWeights}
 use Rattle.droplet.proofs.CardAnswers.{reading-accepted}
 use Rattle.decoder.specs.Demand3.{Demand3}
-use Rattle.decoder.proofs.StoreChain.{store-holds, chain-exists}
+use Rattle.decoder.proofs.StoreChain.{store-holds, store-best, chain-exists}
 use Rattle.decoder.proofs.SoundRestore.{sets-right, restore-sound}
 
 pub demand-3 : Demand3
@@ -12,6 +12,7 @@ demand-3 card c D e =
     let fine = reading-accepted card c D e .unrefused in
     record {
       store = store-holds c weights fine;
+      best = store-best c weights fine;
       calls = λ lent reads. chain-exists c weights reads lent 0;
       sets = sets-right c weights fine;
       back = restore-sound c weights fine;

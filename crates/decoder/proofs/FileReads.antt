@@ -1,149 +1,205 @@
--- Where every legal read is near to a strand of one file, every record in the store is the file's; and more legal reads leave more records.
--- Assumes nothing.
+-- What the legal reads of a job say of the file, so that every record in the store is the file's droplet; what calls are a job; and that
+-- reads of more seeds leave more droplets. Assumes nothing.
 use mathlib.Core.Path.{_≡_, refl, sym, ap, _∙_, subst}
-use mathlib.Core.List.{List, [], _∷_, _++_}
-use mathlib.Core.Logic.{inl, inr}
+use mathlib.Core.Bool.{true}
+use mathlib.Core.List.{List, [], _∷_}
+use mathlib.Core.Logic.{_⊎_, inl, inr, ⊎-elim}
 use Prim.Native.Nat.{ℕ}
 use native.Mathlib.Omega.{arith}
+use borrow.Author.Tests.{eq-eqb, eqb-true}
 use lib.ListN.{length}
 use lib.Seq.{take-all}
 use Rattle.field.specs.Bytes.{All, AllBytes}
 use Rattle.droplet.specs.declared.card.Card.{Card}
+use Rattle.droplet.specs.PoolCard.{segmentCount}
+use Rattle.droplet.specs.Droplet.{payload, member, segmentsOf}
 use Rattle.droplet.specs.Questions.{cardRefusal}
-use Rattle.droplet.specs.Droplet.{payload}
 use Rattle.strand.specs.ReadCheck.{Reading, droplet, refused, readCheck}
-use Rattle.decoder.specs.Store.{Record, records}
-use Rattle.decoder.specs.Restorer.{droplets}
-use Rattle.decoder.specs.Demand3.{keptReading, legalReads, firstOfSeed, storedRecords, Call, readsOf, Chained, lastBuffer, lastCount, GivesAll}
 use Rattle.strand.specs.Writer.{payloadFor}
-use Rattle.decoder.specs.Vault.{Among, AllAmong, storeAfter, dropletsOn, legalOf, RoomForAll, MisreadStrand, LegalPrinted, Job}
-use Rattle.decoder.proofs.AllOf.{all-map, all-front, all-mapped, all-among, among-all, among-mapped}
-use Rattle.decoder.proofs.RecordBytes.{IsRecord}
-use Rattle.decoder.proofs.LegalRead.{InReading, read-recordable}
-use Rattle.decoder.proofs.StoreCall.{room, held-records, fitted}
-use Rattle.decoder.proofs.StoreChain.{store-holds, chain-exists}
+use Rattle.strand.proofs.NearReads.{clean-read}
+use Rattle.decoder.specs.Store.{Record, dropletRecord}
+use Rattle.decoder.specs.Restorer.{droplets}
+use Rattle.decoder.specs.Demand3.{firstSeeds, storedSeeds, seedsOf, Call, readsOf, Chained, GivesAll}
+use Rattle.decoder.specs.Vault.{Among, AllAmong, storeAfter, recordsOn, dropletsOn, legalOf, legalSeeds, RoomForAll, PrintedStrand, MisreadStrand, LegalPrinted, SeedPrinted, CleanPrinted, CleanOffered, Job}
+use Rattle.decoder.proofs.AllOf.{all-map, all-mapped, all-among, among-all, among-mapped}
+use Rattle.decoder.proofs.LegalRead.{InReading}
+use Rattle.decoder.proofs.LegalReads.{legal-all, legal-there, with-seed, first-has}
+use Rattle.decoder.proofs.BestReads.{best-all, best-clean}
+use Rattle.decoder.proofs.StoreCall.{room, fitted}
+use Rattle.decoder.proofs.StoreChain.{left-order, left-best}
 use Rattle.decoder.proofs.PrintedReads.{printed-legal}
-use Rattle.decoder.proofs.FirstOfSeed.{first-all, first-there}
 
--- a record with the file's payload for its seed
+-- a record with the file's payload for its seed, and one that has it if its read was clean
 abbrev pub OfFile : Card → List ℕ → List ℕ → Record → Type 0
 OfFile c ws file r = payloadFor c ws file (r .seed) ≡ r .payload
 
--- such records of one seed are one
-one-record : (c : Card) (ws file : List ℕ) (x y : Record) → OfFile c ws file x → OfFile c ws file y → y .seed ≡ x .seed → x ≡ y
-one-record c ws file x y hx hy e =
-    let p : x .payload ≡ y .payload = sym hx ∙ ap (payloadFor c ws file) (sym e) ∙ hy in
-    λ i. record { seed = sym e i; payload = p i }
+abbrev pub CleanOfFile : Card → List ℕ → List ℕ → Record → Type 0
+CleanOfFile c ws file r = r .clean ≡ true → OfFile c ws file r
 
--- ---- the legal reads
+-- ---- what one reading says
 
-kept-all : (P : Record → Type 0) (o : Reading) (rest : List Record) → InReading P o → All P rest → All P (keptReading o rest)
-kept-all P (refused n) rest h t = t
-kept-all P (droplet s p k) rest h t = (h, t)
+-- a droplet that is a strand's is the file's
+same-payload : (c : Card) (ws file : List ℕ) (s : ℕ) (p : List ℕ) (k t j : ℕ) → droplet s p k ≡ droplet t (payloadFor c ws file t) j
+    → payloadFor c ws file s ≡ p
+same-payload c ws file s p k t j e =
+    let seed : s ≡ t = cc in
+    let part : p ≡ payloadFor c ws file t = cc in
+    ap (payloadFor c ws file) seed ∙ sym part
 
-kept-among : (o : Reading) (rest rest′ : List Record) → AllAmong rest rest′ → AllAmong (keptReading o rest) (keptReading o rest′)
-kept-among (refused n) rest rest′ f x a = f x a
-kept-among (droplet s p k) rest rest′ f x (inl q) = inl q
-kept-among (droplet s p k) rest rest′ f x (inr a) = inr (f x a)
+module _ (c : Card) (ws file : List ℕ) (bytes : AllBytes file) (read : List ℕ) (s : ℕ) (p : List ℕ) where
+  near-ours : (k : ℕ) → readCheck c ws read ≡ droplet s p k → MisreadStrand c ws file read → payloadFor c ws file s ≡ p
+  near-ours k e misread =
+      let legal = printed-legal c ws file bytes (misread .strand) (misread .printed) in
+      same-payload c ws file s p k (legal .0) _ (sym e ∙ legal .2 read (misread .near))
+
+  strand-ours : (k : ℕ) → readCheck c ws read ≡ droplet s p k → PrintedStrand c ws file read → payloadFor c ws file s ≡ p
+  strand-ours k e printed =
+      let legal = printed-legal c ws file bytes read printed in
+      same-payload c ws file s p k (legal .0) 0 (sym e ∙ legal .1)
+
+  -- a clean read that is near to a strand is that strand
+  near-clean : readCheck c ws read ≡ droplet s p 0 → MisreadStrand c ws file read → PrintedStrand c ws file read
+  near-clean e misread =
+      let strand = misread .strand in
+      let legal = printed-legal c ws file bytes strand (misread .printed) in
+      let same : droplet s p 0 ≡ droplet (legal .0) (payloadFor c ws file (legal .0)) _ = sym e ∙ legal .2 read (misread .near) in
+      let seed : s ≡ legal .0 = cc in
+      let part : p ≡ payloadFor c ws file (legal .0) = cc in
+      let own : readCheck c ws strand ≡ droplet s p 0 = legal .1 ∙ cc in
+      subst (PrintedStrand c ws file) (clean-read c ws strand s p own ∙ sym (clean-read c ws read s p e)) (misread .printed)
+
+-- ---- the same of readings, as what holds of their records
 
 module _ (c : Card) (ws : List ℕ) where
-  legal-all : (P : Record → Type 0) (reads : List (List ℕ)) → All (λ read. InReading P (readCheck c ws read)) reads → All P (legalReads c ws reads)
-  unfolding legalReads
-  legal-all P [] h = tt
-  legal-all P (r ∷ rs) h = kept-all P (readCheck c ws r) (legalReads c ws rs) (h .0) (legal-all P rs (h .1))
+  reading-all : (P : Record → Type 0) (read : List ℕ) → ((s : ℕ) (p : List ℕ) (k : ℕ) → readCheck c ws read ≡ droplet s p k → P (dropletRecord s p k))
+      → (o : Reading) → readCheck c ws read ≡ o → InReading P o
+  reading-all P read f (droplet s p k) e = f s p k e
+  reading-all P read f (refused n) e = tt
 
-  further : (reads more : List (List ℕ)) → AllAmong (legalReads c ws reads) (legalReads c ws (reads ++ more))
-  unfolding legalReads
-  further [] more x a = absurd a
-  further (r ∷ rs) more x a = kept-among (readCheck c ws r) (legalReads c ws rs) (legalReads c ws (rs ++ more)) (further rs more) x a
+  readings : (P : Record → Type 0) (Q : List ℕ → Type 0)
+      → ((read : List ℕ) → Q read → (s : ℕ) (p : List ℕ) (k : ℕ) → readCheck c ws read ≡ droplet s p k → P (dropletRecord s p k))
+      → (reads : List (List ℕ)) → All Q reads → All (λ read. InReading P (readCheck c ws read)) reads
+  readings P Q f = all-map Q (λ read. InReading P (readCheck c ws read)) (λ read h. reading-all P read (f read h) (readCheck c ws read) refl)
 
-  pub further-reads : (calls calls′ : List Call) (more : List (List ℕ)) → readsOf calls′ ≡ readsOf calls ++ more
-      → AllAmong (legalOf c ws calls) (legalOf c ws calls′)
-  further-reads calls calls′ more e =
-      subst (λ reads. AllAmong (legalOf c ws calls) (legalReads c ws reads)) (sym e) (further (readsOf calls) more)
+  module _ (file : List ℕ) (bytes : AllBytes file) where
+    pub clean-readings : (reads : List (List ℕ)) → CleanPrinted c ws file reads
+        → All (λ read. InReading (CleanOfFile c ws file) (readCheck c ws read)) reads
+    clean-readings =
+        readings (CleanOfFile c ws file) _ (λ read h s p k e clean.
+        strand-ours c ws file bytes read s p k e (h s p (e ∙ ap (droplet s p) (eqb-true k 0 clean))))
 
-  -- ---- the store
+    pub near-readings : (reads : List (List ℕ)) → LegalPrinted c ws file reads → All (λ read. InReading (OfFile c ws file) (readCheck c ws read)) reads
+    near-readings = readings (OfFile c ws file) _ (λ read h s p k e. near-ours c ws file bytes read s p k e (h s p k e))
 
-  store-all : (P : Record → Type 0) (lent : List ℕ) (reads : List (List ℕ)) → All P (legalReads c ws reads) → All P (storedRecords c ws lent reads)
-  unfolding storedRecords
-  store-all P lent reads h =
-      all-front P (room (c .l) lent) (firstOfSeed [] (legalReads c ws reads)) (first-all P [] (legalReads c ws reads) h)
+    seed-readings : (t : ℕ) (reads : List (List ℕ)) → SeedPrinted c ws file reads t
+        → All (λ read. InReading (λ r. r .seed ≡ t → OfFile c ws file r) (readCheck c ws read)) reads
+    seed-readings t =
+        readings (λ r. r .seed ≡ t → OfFile c ws file r) _ (λ read h s p k e same.
+        near-ours c ws file bytes read s p k e (h p k (e ∙ ap (λ (x : ℕ). droplet x p k) same)))
 
-  store-whole : (lent : List ℕ) (calls : List Call) → RoomForAll c ws lent calls → storedRecords c ws lent (readsOf calls) ≡ firstOfSeed [] (legalOf c ws calls)
-  unfolding storedRecords
-  store-whole lent calls fits =
-      let first = firstOfSeed [] (legalOf c ws calls) in take-all (room (c .l) lent) first (fitted (c .l) lent (length first) (omega (arith, fits)))
+-- ---- the store
 
-  module _ (fine : cardRefusal c ws ≡ 0) where
-    recordable : (reads : List (List ℕ)) → All (IsRecord (c .l)) (legalReads c ws reads)
-    recordable reads =
-        legal-all (IsRecord (c .l)) reads
-        (among-all (λ read. InReading (IsRecord (c .l)) (readCheck c ws read)) reads (λ read a. read-recordable c ws read))
+module _ (c : Card) (ws : List ℕ) (fine : cardRefusal c ws ≡ 0) where
+  module _ (lent : List ℕ) (calls : List Call) (chained : Chained c ws lent 0 calls) where
+    abbrev reads : List (List ℕ)
+    reads = readsOf calls
 
-    store-records : (lent : List ℕ) (calls : List Call) → Chained c ws lent 0 calls
-        → records (c .l) (lastCount 0 calls) (lastBuffer lent calls) ≡ storedRecords c ws lent (readsOf calls)
-    store-records lent calls t =
-        held-records (c .l) lent (storedRecords c ws lent (readsOf calls)) (lastBuffer lent calls) (lastCount 0 calls)
-        (store-all (IsRecord (c .l)) lent (readsOf calls) (recordable (readsOf calls))) (store-holds c ws fine lent calls t)
+    abbrev left : List Record
+    left = recordsOn c ws (storeAfter lent calls)
 
-    -- ---- reads of one file
+    -- what holds of all legal reads holds of each record
+    left-all : (P : Record → Type 0) → All P (legalOf c ws calls) → (r : Record) → Among r left → P r
+    left-all P h r a = best-all (r .seed) (legalOf c ws calls) P r h (all-among _ left (left-best c ws fine lent calls chained) r a)
 
-    pub jobs : (file lent : List ℕ) (reads : List (List ℕ)) → length file ≡ c .f → AllBytes file → LegalPrinted c ws file reads
-        → (calls : List Call) × Job c ws file lent calls × (readsOf calls ≡ reads)
-    jobs file lent reads size bytes printed =
-        let chain = chain-exists c ws reads lent 0 in (
-          chain .0,
-          record { size = size; bytes = bytes; chained = chain .1; printed = subst (LegalPrinted c ws file) (sym (chain .2)) printed },
-          chain .2,
-        )
+    -- of a seed with a clean read the record is clean
+    offered-clean : (r : Record) → Among r left → CleanOffered c ws reads (r .seed) → r .clean ≡ true
+    offered-clean r a k =
+        best-clean (r .seed) (legalOf c ws calls) r (dropletRecord (r .seed) (k .payload) 0)
+        (legal-there c ws reads (k .read) (r .seed) (k .payload) 0 (k .among) (k .clean)) (rw (eq-eqb (r .seed) (r .seed) refl))
+        (all-among _ left (left-best c ws fine lent calls chained) r a)
 
     module _ (file : List ℕ) (bytes : AllBytes file) where
-      reading-ours : (read : List ℕ) (o : Reading) → readCheck c ws read ≡ o
-          → ((s : ℕ) (p : List ℕ) (k : ℕ) → readCheck c ws read ≡ droplet s p k → MisreadStrand c ws file read) → InReading (OfFile c ws file) o
-      reading-ours read (refused n) e f = tt
-      reading-ours read (droplet s p k) e f =
-          let misread = f s p k e in
-          let legal = printed-legal c ws file bytes (misread .strand) (misread .printed) in
-          let same : droplet s p k ≡ droplet (legal .0) (payloadFor c ws file (legal .0)) _ = sym e ∙ legal .2 read (misread .near) in
-          let seed : s ≡ legal .0 = cc in
-          let part : p ≡ payloadFor c ws file (legal .0) = cc in
-          ap (payloadFor c ws file) seed ∙ sym part
+      clean-ours : CleanPrinted c ws file reads → (r : Record) → Among r left → CleanOfFile c ws file r
+      clean-ours printed = left-all (CleanOfFile c ws file) (legal-all c ws (CleanOfFile c ws file) reads (clean-readings c ws file bytes reads printed))
 
-    module _ (file lent : List ℕ) (calls : List Call) (job : Job c ws file lent calls) where
-      pub readings-ours : All (λ read. InReading (OfFile c ws file) (readCheck c ws read)) (readsOf calls)
-      readings-ours =
-          all-map _ (λ read. InReading (OfFile c ws file) (readCheck c ws read))
-          (λ read f. reading-ours file (job .bytes) read (readCheck c ws read) refl f) (readsOf calls) (job .printed)
+      seed-ours : (r : Record) → Among r left → SeedPrinted c ws file reads (r .seed) → OfFile c ws file r
+      seed-ours r a near =
+          left-all (λ x. x .seed ≡ r .seed → OfFile c ws file x)
+          (legal-all c ws (λ x. x .seed ≡ r .seed → OfFile c ws file x) reads (seed-readings c ws file bytes (r .seed) reads near)) r a refl
 
-      legal-ours : All (OfFile c ws file) (legalOf c ws calls)
-      legal-ours = legal-all (OfFile c ws file) (readsOf calls) readings-ours
+  pub clean-records : (file lent : List ℕ) (calls : List Call) → AllBytes file → Chained c ws lent 0 calls → CleanPrinted c ws file (readsOf calls)
+      → All (CleanOfFile c ws file) (recordsOn c ws (storeAfter lent calls))
+  clean-records file lent calls bytes chained printed =
+      among-all (CleanOfFile c ws file) (recordsOn c ws (storeAfter lent calls)) (clean-ours lent calls chained file bytes printed)
 
-      pub store-ours : GivesAll (c .l) file (dropletsOn c ws (storeAfter lent calls))
-      unfolding GivesAll droplets
-      store-ours =
-          all-mapped (λ d. payload (c .l) file (d .segments) ≡ d .payload) _ (records (c .l) (lastCount 0 calls) (lastBuffer lent calls))
-          (subst (All (OfFile c ws file)) (sym (store-records lent calls (job .chained))) (store-all (OfFile c ws file) lent (readsOf calls) legal-ours))
+  -- ---- jobs
 
-    -- ---- two lists of calls
+  module _ (file lent : List ℕ) (calls : List Call) (size : length file ≡ c .f) (bytes : AllBytes file) (chained : Chained c ws lent 0 calls) where
+    pub jobs : LegalPrinted c ws file (readsOf calls) → Job c ws file lent calls
+    jobs near =
+        record {
+          size = size;
+          bytes = bytes;
+          chained = chained;
+          clean = all-map _ _ (λ read h s p e. near-clean c ws file bytes read s p e (h s p 0 e)) (readsOf calls) near;
+          seeds = among-all _ (recordsOn c ws (storeAfter lent calls)) (λ r a. inr (all-map _ _ (λ read h p k e. h (r .seed) p k e) (readsOf calls) near));
+        }
 
-    module _ (file lent lent′ : List ℕ) (calls calls′ : List Call) (job : Job c ws file lent calls) (job′ : Job c ws file lent′ calls′)
-        (fits : RoomForAll c ws lent′ calls′) (among : AllAmong (legalOf c ws calls) (legalOf c ws calls′)) where
-      records-among : AllAmong (storedRecords c ws lent (readsOf calls)) (storedRecords c ws lent′ (readsOf calls′))
-      records-among x a =
-          let legal = legalOf c ws calls in
-          let legal′ = legalOf c ws calls′ in
-          let first′ = firstOfSeed [] legal′ in
-          let there = all-among (λ y. Among y legal) (storedRecords c ws lent (readsOf calls))
-          (store-all (λ y. Among y legal) lent (readsOf calls) (among-all (λ y. Among y legal) legal (λ y b. b))) x a in
-          let one = first-there x legal′ (among x there) in
-          let ours = all-among (OfFile c ws file) legal (legal-ours file lent calls job) x there in
-          let ours′ = all-among (OfFile c ws file) first′ (first-all (OfFile c ws file) [] legal′ (legal-ours file lent′ calls′ job′)) (one .0) (one .1) in
-          subst (λ (l : List Record). Among x l) (sym (store-whole lent′ calls′ fits))
-          (subst (λ (y : Record). Among y first′) (sym (one-record c ws file x (one .0) ours ours′ (one .2))) (one .1))
+    pub clean-jobs : CleanPrinted c ws file (readsOf calls)
+        → All (λ r. CleanOffered c ws (readsOf calls) (r .seed) ⊎ SeedPrinted c ws file (readsOf calls) (r .seed)) (recordsOn c ws (storeAfter lent calls))
+        → Job c ws file lent calls
+    clean-jobs printed offered =
+        let left = recordsOn c ws (storeAfter lent calls) in
+        record {
+          size = size;
+          bytes = bytes;
+          chained = chained;
+          clean = printed;
+          seeds = among-all _ left (λ r a. ⊎-elim (λ k. inl (offered-clean lent calls chained r a k)) (λ near. inr near) (all-among _ left offered r a));
+        }
 
-      pub droplets-among : AllAmong (dropletsOn c ws (storeAfter lent calls)) (dropletsOn c ws (storeAfter lent′ calls′))
-      unfolding droplets
-      droplets-among =
-          among-mapped _ (records (c .l) (lastCount 0 calls) (lastBuffer lent calls)) (records (c .l) (lastCount 0 calls′) (lastBuffer lent′ calls′))
-          (subst (λ (l : List Record). AllAmong l (records (c .l) (lastCount 0 calls′) (lastBuffer lent′ calls′))) (sym (store-records lent calls (job .chained)))
-          (subst (λ (l : List Record). AllAmong (storedRecords c ws lent (readsOf calls)) l) (sym (store-records lent′ calls′ (job′ .chained))) records-among))
+  module _ (file lent : List ℕ) (calls : List Call) (job : Job c ws file lent calls) where
+    record-ours : (r : Record) → Among r (recordsOn c ws (storeAfter lent calls)) → OfFile c ws file r
+    record-ours r a =
+        ⊎-elim (λ clean. clean-ours lent calls (job .chained) file (job .bytes) (job .clean) r a clean)
+        (λ near. seed-ours lent calls (job .chained) file (job .bytes) r a near) (all-among _ (recordsOn c ws (storeAfter lent calls)) (job .seeds) r a)
+
+    pub store-ours : GivesAll (c .l) file (dropletsOn c ws (storeAfter lent calls))
+    unfolding GivesAll droplets
+    store-ours =
+        all-mapped (λ d. payload (c .l) file (d .segments) ≡ d .payload) _ (recordsOn c ws (storeAfter lent calls))
+        (among-all (OfFile c ws file) (recordsOn c ws (storeAfter lent calls)) record-ours)
+
+  -- ---- two lists of calls
+
+  module _ (file lent lent′ : List ℕ) (calls calls′ : List Call) (job : Job c ws file lent calls) (job′ : Job c ws file lent′ calls′)
+      (fits : RoomForAll c ws lent′ calls′) (among : AllAmong (legalSeeds c ws calls) (legalSeeds c ws calls′)) where
+    -- with room for all, each seed of the legal reads is in the store
+    seeds-whole : seedsOf (recordsOn c ws (storeAfter lent′ calls′)) ≡ firstSeeds [] (legalOf c ws calls′)
+    unfolding storedSeeds
+    seeds-whole =
+        let first = firstSeeds [] (legalOf c ws calls′) in
+        left-order c ws fine lent′ calls′ (job′ .chained) ∙ take-all (room (c .l) lent′) first (fitted (c .l) lent′ (length first) (omega (arith, fits)))
+
+    same-seed : (x : Record) → Among x (recordsOn c ws (storeAfter lent calls)) → (y : Record) × Among y (recordsOn c ws (storeAfter lent′ calls′)) × (y .seed ≡ x .seed)
+    same-seed x a =
+        let here : Among (x .seed) (legalSeeds c ws calls)
+        = left-all lent calls (job .chained) (λ y. Among (y .seed) (legalSeeds c ws calls)) (seeds-there (legalOf c ws calls)) x a in
+        with-seed (x .seed) (recordsOn c ws (storeAfter lent′ calls′))
+        (ap (member (x .seed)) seeds-whole ∙ first-has (x .seed) [] (legalOf c ws calls′) (among (x .seed) here))
+      where
+        seeds-there : (rs : List Record) → All (λ y. Among (y .seed) (seedsOf rs)) rs
+        seeds-there [] = tt
+        seeds-there (r ∷ rs) = (inl refl, all-map _ _ (λ y b. inr b) rs (seeds-there rs))
+
+    pub droplets-among : AllAmong (dropletsOn c ws (storeAfter lent calls)) (dropletsOn c ws (storeAfter lent′ calls′))
+    unfolding droplets
+    droplets-among =
+        among-mapped _ (recordsOn c ws (storeAfter lent calls)) (recordsOn c ws (storeAfter lent′ calls′))
+        (λ x a.
+        let there = same-seed x a in
+        let y = there .0 in
+        let e : x .seed ≡ y .seed = sym (there .2) in
+        let p : x .payload ≡ y .payload
+        = sym (record-ours file lent calls job x a) ∙ ap (payloadFor c ws file) e ∙ record-ours file lent′ calls′ job′ y (there .1) in
+        (y, there .1, λ i. record { segments = segmentsOf ws (segmentCount c) (e i); payload = p i }))

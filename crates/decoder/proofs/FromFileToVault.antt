@@ -1,11 +1,13 @@
--- From file to vault and back: the claim about every file, every list of store calls whose legal reads are near to its strands, and
--- every restore, under one accepted card. Assumes nothing.
+-- From file to vault and back: the claim about every file, every list of store calls whose clean legal reads are its strands, and every
+-- restore, under one accepted card. Assumes nothing.
 use Rattle.droplet.specs.PoolCard.{cardWeights}
 use Rattle.droplet.proofs.CardAnswers.{reading-accepted}
 use Rattle.decoder.specs.Vault.{storeAfter, FromFileToVault}
+use Rattle.decoder.proofs.StoreChain.{chain-exists}
 use Rattle.decoder.proofs.PrintedReads.{printed-legal}
-use Rattle.decoder.proofs.FileReads.{jobs, further-reads, store-ours, droplets-among}
-use Rattle.decoder.proofs.NeverRefused15.{never-15}
+use Rattle.decoder.proofs.LegalReads.{further-reads}
+use Rattle.decoder.proofs.FileReads.{clean-records, jobs, clean-jobs, store-ours, droplets-among}
+use Rattle.decoder.proofs.NeverRefused15.{clean-never-15, never-15}
 use Rattle.decoder.proofs.CustomersFile.{interleaves, interleaved, original-back}
 use Rattle.decoder.proofs.RightSheets.{right-sheet, more-droplets, same-droplets}
 
@@ -16,10 +18,14 @@ from-file-to-vault card c D e =
     record {
       interleaves = interleaves c weights fine;
       interleaved = interleaved c weights fine;
+      calls = λ lent reads. chain-exists c weights reads lent 0;
       jobs = jobs c weights fine;
+      clean-jobs = clean-jobs c weights fine;
       legal = λ file strand bytes. printed-legal c weights file bytes strand;
-      store = store-ours c weights fine;
+      clean-records = clean-records c weights fine;
+      clean-never-15 = clean-never-15 c weights fine;
       never-15 = never-15 c weights fine;
+      store = store-ours c weights fine;
       back = λ file lent calls job. right-sheet c weights fine file (storeAfter lent calls) (job .size) (store-ours c weights fine file lent calls job);
       original-back = λ original file lent calls from job r file′ marks′ sheet all. original-back c weights fine original file from file′
           (right-sheet c weights fine file (storeAfter lent calls) (job .size) (store-ours c weights fine file lent calls job) r file′ marks′ sheet .whole all);

@@ -5,12 +5,12 @@ use Prim.Native.Nat.{ℕ}
 use Rattle.droplet.specs.declared.card.Card.{Card}
 use Rattle.strand.specs.ReadCheck.{Reading, droplet, refused, readCheck}
 use Rattle.strand.proofs.LegalStrands.{accepts-exactly}
-use Rattle.decoder.specs.Store.{Record}
+use Rattle.decoder.specs.Store.{Record, dropletRecord}
 use Rattle.decoder.proofs.RecordBytes.{IsRecord}
 
 -- what holds of the record of a reading that is a droplet
 abbrev pub InReading : (Record → Type 0) → Reading → Type 0
-InReading P (droplet s p k) = P (record { seed = s; payload = p })
+InReading P (droplet s p k) = P (dropletRecord s p k)
 InReading P (refused n) = Unit {0}
 
 -- a droplet that a record of L payload bytes holds, or a refusal

@@ -1,17 +1,16 @@
--- Where every legal read is near to a strand of one file, no store call is refused under 15. Assumes nothing.
+-- Where every clean legal read is a strand of one file, no clean read is refused under 15; where every legal read is near to one, no read
+-- is. Assumes nothing.
 use mathlib.Core.Path.{_≡_, refl, sym, ap, _∙_, subst}
-use mathlib.Core.Bool.{Bool, true, false, cond}
+use mathlib.Core.Bool.{Bool, true, false, cond, true≢false}
 use mathlib.Core.List.{List, [], _∷_}
 use mathlib.Core.Logic.{inl, inr}
-use Prim.Native.Nat.{ℕ, suc, _*_}
-use native.Mathlib.Nat.{zero-mul}
+use Prim.Native.Nat.{ℕ}
 use native.Mathlib.Omega.{arith}
-use borrow.Author.Tests.{eqb-true}
-use lib.Dec.{eqb, leb}
-use lib.ListN.{length, take}
-use lib.Seq.{take-nil}
-use Rattle.field.specs.Bytes.{All}
+use lib.Dec.{eqb}
+use lib.ListN.{length}
+use Rattle.field.specs.Bytes.{All, AllBytes, sameBytes}
 use Rattle.field.proofs.Tests.{either}
+use Rattle.field.proofs.ByteLists.{all-append}
 use Rattle.field.proofs.SameBytes.{eq-same}
 use Rattle.droplet.specs.declared.card.Card.{Card}
 use Rattle.droplet.specs.PoolCard.{strandBases}
@@ -20,25 +19,29 @@ use Rattle.strand.specs.Letters.{allLetters, lettersWord}
 use Rattle.strand.specs.Screen.{screenPasses}
 use Rattle.correction.specs.Correction.{Corrected, codeword, none, corrected}
 use Rattle.strand.specs.ReadCheck.{Reading, droplet, refused, wordSeed, strandReading, correctedReading, wordReading, lettersReading, readCheck}
-use Rattle.decoder.specs.declared.store.StoreAnswer.the-variants as reply
-use Rattle.decoder.specs.Store.{Record, recordBytes, recordsText, records, Found, found, absent, findSeed, Stored, accepted, repeat, refusal, storeAnswer, keptAnswer, appended, compared, storeRecord, storeReading, storeRead}
-use Rattle.decoder.specs.Demand3.{Holds, Call, readsOf, nextCount, Chained}
 use Rattle.strand.specs.Writer.{payloadFor}
-use Rattle.decoder.specs.Vault.{Job}
-use Rattle.decoder.proofs.AllOf.{all-front}
-use Rattle.decoder.proofs.RecordBytes.{IsRecord}
-use Rattle.decoder.proofs.LegalRead.{InReading, read-recordable}
-use Rattle.decoder.proofs.StoreCall.{room, grown, held-records, held-fits}
-use Rattle.decoder.proofs.StoreChain.{grown-all, promise-holds}
-use Rattle.decoder.proofs.FileReads.{OfFile, readings-ours}
+use Rattle.decoder.specs.declared.store.StoreAnswer.the-variants as reply
+use Rattle.decoder.specs.Store.{Record, Stored, accepted, repeat, replaced, refusal, storeAnswer, takesOver, better, dropletRecord}
+use Rattle.decoder.specs.Demand3.{Call, readsOf, nextCount, Chained}
+use Rattle.decoder.specs.Vault.{LegalPrinted, CleanPrinted}
+use Rattle.decoder.proofs.AllOf.{all-map, all-before, all-after}
+use Rattle.decoder.proofs.SeedSearch.{Spot}
+use Rattle.decoder.proofs.LegalRead.{InReading}
+use Rattle.decoder.proofs.BestReads.{merged}
+use Rattle.decoder.proofs.Moves.{Move, added, full, met, Step}
+use Rattle.decoder.proofs.StoreCall.{room, Stocked}
+use Rattle.decoder.proofs.StoreChain.{call-steps, empty-stocked}
+use Rattle.decoder.proofs.FileReads.{OfFile, CleanOfFile, clean-readings, near-readings}
 
 -- the number of a refusal
-abbrev numberOf : Stored → ℕ
-numberOf (accepted n) = 0
-numberOf (repeat n) = 0
-numberOf (refusal q) = q
+abbrev numberIn : Stored → ℕ
+numberIn (accepted n) = 0
+numberIn (repeat n) = 0
+numberIn (replaced n) = 0
+numberIn (refusal q) = q
 
--- the read check's own numbers are others
+-- ---- the read check's own numbers are others
+
 abbrev Other : Reading → Type 0
 Other (droplet s p k) = Unit {0}
 Other (refused q) = q ≡ 15 → ⊥
@@ -62,63 +65,98 @@ module _ (c : Card) (ws : List ℕ) (fine : cardRefusal c ws ≡ 0) where
       (of-test (eqb (length read) (strandBases c)) _ _
       (of-test (allLetters read) _ _ (word-other (corrected (c .r) (lettersWord read))) (λ e. omega arith)) (λ e. omega arith))
 
-  module _ (file : List ℕ) where
-    found-ours : (s : ℕ) (rs : List Record) (q : List ℕ) → All (OfFile c ws file) rs → findSeed s rs ≡ found q → payloadFor c ws file s ≡ q
-    unfolding findSeed
-    found-ours s [] q h e = cc
-    found-ours s (r ∷ rs) q h e =
-        elim (either (eqb (r .seed) s)) [
-          | inl t ↦
-              let f : found (r .payload) ≡ found q = rw t at e in
-              let p : r .payload ≡ q = cc in
-              ap (payloadFor c ws file) (sym (eqb-true (r .seed) s t)) ∙ h .0 ∙ p
-          | inr t ↦ found-ours s rs q (h .1) (rw t at e)
+-- ---- a step over records
+
+-- P holds of every legal read and so of every record; a read with C has the payload of a record that it does not take over
+module _ (P C : Record → Type 0)
+    (meets : (r q : Record) → better r q ≡ false → q .seed ≡ r .seed → C r → P r → P q → q .payload ≡ r .payload) where
+  merged-has : (b : Bool) (r q : Record) → P r → P q → P (cond b r q)
+  merged-has true r q p h = p
+  merged-has false r q p h = h
+
+  same-payload : (q r : Record) → sameBytes (q .payload) (r .payload) ≡ false → q .payload ≡ r .payload → ⊥
+  same-payload q r t e = true≢false (sym (eq-same (r .payload)) ∙ ap (λ (l : List ℕ). sameBytes l (r .payload)) (sym e) ∙ t)
+
+  module _ (space : ℕ) (rs : List Record) (h : All P rs) (r : Record) (a : Stored) (rs′ : List Record) (p : P r) where
+    found-has : (i : ℕ) (q : Record) (spot : Spot (r .seed) rs i q) → All P (q ∷ spot .after)
+    found-has i q spot = all-after P (spot .before) (q ∷ spot .after) (subst (All P) (spot .parts) h)
+
+    move-all : Move space rs r a rs′ → All P rs′
+    move-all (added m) = subst (All P) (sym (m .now)) (all-append P rs (r ∷ []) h (p, tt))
+    move-all (full m) = subst (All P) (sym (m .now)) h
+    move-all (met m) =
+        let spot = m .spot in
+        let own = found-has (m .i) (m .q) spot in
+        subst (All P) (sym (m .now))
+        (all-append P (spot .before) (merged r (m .q) ∷ spot .after) (all-before P (spot .before) (m .q ∷ spot .after) (subst (All P) (spot .parts) h))
+        (merged-has (better r (m .q)) r (m .q) p (own .0), own .1))
+
+    move-15 : Move space rs r a rs′ → C r → numberIn a ≡ 15 → ⊥
+    move-15 (added m) c e = let n : _≡_ {A = ℕ} 0 15 = rw (m .says) at e in omega arith
+    move-15 (full m) c e = let n : _≡_ {A = ℕ} 16 15 = rw (m .says) at e in omega arith
+    move-15 (met m) c e =
+        let q = m .q in
+        let says = ap numberIn (sym (m .says)) ∙ e in
+        elim (either (better r q)) [
+          | inl b ↦ let n : _≡_ {A = ℕ} 0 15 = rw b at says in omega arith
+          | inr b ↦
+              elim (either (sameBytes (q .payload) (r .payload))) [
+                | inl t ↦ let n : _≡_ {A = ℕ} 0 15 = rw (b, t) at says in omega arith
+                | inr t ↦ same-payload q r t (meets r q b (m .spot .seed) c p (found-has (m .i) q (m .spot) .0))
+              ]
         ]
 
-    compared-other : (buffer : List ℕ) (count : ℕ) (r : Record) (o : Found) → ((q : List ℕ) → o ≡ found q → q ≡ r .payload)
-        → numberOf (keptAnswer (compared (c .l) buffer count r o)) ≡ 15 → ⊥
-    unfolding compared appended
-    compared-other buffer count r absent same e =
-        elim (either (leb (suc count * recordBytes (c .l)) (length buffer))) [
-          | inl t ↦ let n : _≡_ {A = ℕ} 0 15 = rw t at e in omega arith
-          | inr t ↦ let n : _≡_ {A = ℕ} 16 15 = rw t at e in omega arith
-        ]
-    compared-other buffer count r (found q) same e =
-        let n : _≡_ {A = ℕ} 0 15 = rw (same q refl, eq-same (r .payload)) at e in omega arith
+  module _ (space : ℕ) (rs : List Record) (h : All P rs) (a : Stored) (rs′ : List Record) where
+    step-all : (o : Reading) → InReading P o → Step space rs o a rs′ → All P rs′
+    step-all (droplet s p k) f m = move-all space rs h (dropletRecord s p k) a rs′ f m
+    step-all (refused n) f m = subst (All P) (sym (m .now)) h
 
-    reading-other : (buffer : List ℕ) (count : ℕ) → All (OfFile c ws file) (records (c .l) count buffer) → (o : Reading) → Other o → InReading (OfFile c ws file) o
-        → numberOf (keptAnswer (storeReading (c .l) buffer count o)) ≡ 15 → ⊥
-    unfolding storeReading storeRecord
-    reading-other buffer count h (refused q) n f = n
-    reading-other buffer count h (droplet s p k) n f =
-        compared-other buffer count (record { seed = s; payload = p }) (findSeed s (records (c .l) count buffer))
-        (λ q e. sym (found-ours s (records (c .l) count buffer) q h e) ∙ f)
+    step-15 : (o : Reading) → Other o → InReading P o → Step space rs o a rs′ → InReading C o → numberIn a ≡ 15 → ⊥
+    step-15 (droplet s p k) other f m c e = move-15 space rs h (dropletRecord s p k) a rs′ f m c e
+    step-15 (refused n) other f m c e = other (ap numberIn (sym (m .says)) ∙ e)
 
-    module _ (lent : List ℕ) where
-      call-other : (rs : List Record) → All (IsRecord (c .l)) rs → All (OfFile c ws file) rs → (buffer : List ℕ) (count : ℕ)
-          → Holds (c .l) lent (take (room (c .l) lent) rs) buffer count → (read : List ℕ) → InReading (OfFile c ws file) (readCheck c ws read)
-          → numberOf (keptAnswer (storeRead c ws buffer count read)) ≡ 15 → ⊥
-      unfolding storeRead
-      call-other rs good ours buffer count h read f =
-          let front = take (room (c .l) lent) rs in
-          let held = held-records (c .l) lent front buffer count (all-front (IsRecord (c .l)) (room (c .l) lent) rs good) h in
-          rw (fine, held-fits (c .l) lent rs good buffer count h)
-          (reading-other buffer count (subst (All (OfFile c ws file)) (sym held) (all-front (OfFile c ws file) (room (c .l) lent) rs ours))
-          (readCheck c ws read) (read-other read) f)
+  -- ---- a list of calls
 
-      chain-other : (rs : List Record) → All (IsRecord (c .l)) rs → All (OfFile c ws file) rs → (buffer : List ℕ) (count : ℕ)
-          → Holds (c .l) lent (take (room (c .l) lent) rs) buffer count → (calls : List Call) → Chained c ws buffer count calls
-          → All (λ read. InReading (OfFile c ws file) (readCheck c ws read)) (readsOf calls) → All (λ k. k .answer ≡ reply.Refused 15 → ⊥) calls
-      unfolding Chained
-      chain-other rs good ours buffer count h [] t f = tt
-      chain-other rs good ours buffer count h (k ∷ ks) t f =
-          let o = readCheck c ws (k .read) in (
-            (λ q. call-other rs good ours buffer count h (k .read) (f .0) (ap numberOf (sym (t .0 .says) ∙ ap storeAnswer q))),
-            chain-other (grown rs o) (grown-all (IsRecord (c .l)) rs o (read-recordable c ws (k .read)) good) (grown-all (OfFile c ws file) rs o (f .0) ours)
-                (k .buffer) (nextCount count (k .answer)) (promise-holds c ws fine lent rs good buffer count h k (t .0)) ks (t .1) (f .1),
-          )
+  module _ (c : Card) (ws : List ℕ) (fine : cardRefusal c ws ≡ 0) (lent : List ℕ) where
+    chain-15 : (rs : List Record) → All P rs → (buffer : List ℕ) (count : ℕ) → Stocked (c .l) lent rs buffer count
+        → (calls : List Call) → Chained c ws buffer count calls → All (λ read. InReading P (readCheck c ws read)) (readsOf calls)
+        → All (λ k. InReading C (readCheck c ws (k .read)) → k .answer ≡ reply.Refused 15 → ⊥) calls
+    unfolding Chained
+    chain-15 rs h buffer count held [] t f = tt
+    chain-15 rs h buffer count held (k ∷ ks) t f =
+        let o = readCheck c ws (k .read) in
+        let a = storeAnswer (k .answer) in
+        let now = call-steps c ws fine lent rs buffer count held k (t .0) in (
+          (λ has q. step-15 (room (c .l) lent) rs h a (now .rs′) o (read-other c ws fine (k .read)) (f .0) (now .step) has (ap (λ x. numberIn (storeAnswer x)) q)),
+          chain-15 (now .rs′) (step-all (room (c .l) lent) rs h a (now .rs′) o (f .0) (now .step)) (k .buffer) (nextCount count (k .answer)) (now .stocked) ks
+              (t .1) (f .1),
+        )
 
-  pub never-15 : (file lent : List ℕ) (calls : List Call) → Job c ws file lent calls → All (λ k. k .answer ≡ reply.Refused 15 → ⊥) calls
-  never-15 file lent calls job =
-      chain-other file lent [] tt tt lent 0 (rw take-nil (record { number = refl; bytes = unfold recordsText in rw zero-mul })) calls (job .chained)
-      (readings-ours c ws fine file lent calls job)
+-- ---- reads of one file
+
+not-better : (read standing : Bool) → takesOver read standing ≡ false → read ≡ true → standing ≡ true
+not-better true true e f = refl
+not-better true false e f = absurd (true≢false e)
+not-better false standing e f = absurd (true≢false (sym f))
+
+module _ (c : Card) (ws : List ℕ) (fine : cardRefusal c ws ≡ 0) (file lent : List ℕ) (calls : List Call) (bytes : AllBytes file) (chained : Chained c ws lent 0 calls) where
+  one-payload : (r q : Record) → q .seed ≡ r .seed → OfFile c ws file r → OfFile c ws file q → q .payload ≡ r .payload
+  one-payload r q e hr hq = sym hq ∙ ap (payloadFor c ws file) e ∙ hr
+
+  pub clean-never-15 : CleanPrinted c ws file (readsOf calls)
+      → All (λ k. (s : ℕ) (p : List ℕ) → readCheck c ws (k .read) ≡ droplet s p 0 → k .answer ≡ reply.Refused 15 → ⊥) calls
+  clean-never-15 printed =
+      all-map _ _ (λ k f s p e. f (subst (InReading (λ r. r .clean ≡ true)) (sym e) refl)) calls
+      (chain-15 (CleanOfFile c ws file) (λ r. r .clean ≡ true)
+      (λ r q worse e clean hr hq. one-payload r q e (hr clean) (hq (not-better (r .clean) (q .clean) worse clean)))
+      c ws fine lent [] tt lent 0 (empty-stocked c ws fine lent) calls chained (clean-readings c ws file bytes (readsOf calls) printed))
+
+  anything : (o : Reading) → InReading (λ r. Unit {0}) o
+  anything (droplet s p k) = tt
+  anything (refused n) = tt
+
+  pub never-15 : LegalPrinted c ws file (readsOf calls) → All (λ k. k .answer ≡ reply.Refused 15 → ⊥) calls
+  never-15 printed =
+      all-map _ _ (λ k f. f (anything (readCheck c ws (k .read)))) calls
+      (chain-15 (OfFile c ws file) (λ r. Unit {0}) (λ r q worse e any hr hq. one-payload r q e hr hq)
+      c ws fine lent [] tt lent 0 (empty-stocked c ws fine lent) calls chained (near-readings c ws file bytes (readsOf calls) printed))

@@ -1,26 +1,26 @@
--- One store call over a store that holds the first of some records, as many as fit: it holds these with the read's, if the
--- read is legal and its seed new, again as many as fit. Assumes nothing.
-use mathlib.Core.Path.{_≡_, sym, ap, ap₂, _∙_}
-use mathlib.Core.Bool.{true, cond}
+-- One store call over a store that holds some records: it makes one of the moves, and the store holds the records of that move, with the
+-- bytes past them as lent. Assumes nothing.
+use mathlib.Core.Path.{_≡_, refl, sym, ap, ap₂, _∙_}
+use mathlib.Core.Bool.{true}
 use mathlib.Core.List.{List, [], _∷_, _++_}
 use mathlib.Core.Logic.{inl, inr}
-use Prim.Native.Nat.{ℕ, suc, _+_, _*_, _/_, _≤_, _<_, min}
+use Prim.Native.Nat.{ℕ, suc, _+_, _*_, _/_, _≤_, _<_}
 use native.Mathlib.Nat.{le-div-iff-mul-le, div-lt-iff-lt-mul}
 use native.Mathlib.Omega.{arith}
 use borrow.Author.Tests.{leb-true, leb-false, le-leb}
 use lib.Dec.{leb}
-use lib.ListN.{length, take, drop, length-append, length-take, length-drop}
-use lib.Seq.{take-all, take-append-le}
+use lib.ListN.{length, drop, length-append, length-drop}
 use Rattle.field.specs.Bytes.{All, sameBytes}
 use Rattle.field.proofs.Tests.{either}
+use Rattle.field.proofs.ByteLists.{all-append}
 use Rattle.strand.specs.ReadCheck.{Reading, droplet, refused}
-use Rattle.decoder.specs.Store.{Record, recordBytes, Found, found, absent, findSeed, records, recordsText, Stored, accepted, repeat, refusal, Kept, keptAnswer, keptBuffer, appended, compared, storeRecord, storeReading, countFits}
-use Rattle.decoder.specs.Restorer.{hasSeed}
+use Rattle.decoder.specs.Store.{Record, recordBytes, evidenceText, evidencePlace, recordsText, records, Found, found, absent, findSeed, Stored, accepted, replaced, repeat, refusal, Kept, keptAnswer, keptBuffer, overwritten, appended, better, compared, storeRecord, dropletRecord, storeReading, countFits}
 use Rattle.decoder.specs.Demand3.{Holds}
-use Rattle.decoder.proofs.AllOf.{all-front}
-use Rattle.decoder.proofs.RecordBytes.{IsRecord, parts-fit, texts-length, records-back, texts-more}
-use Rattle.decoder.proofs.SeedSearch.{absent-has, found-has, front-has, later-has}
+use Rattle.decoder.proofs.AllOf.{all-before, all-after}
+use Rattle.decoder.proofs.RecordBytes.{IsRecord, parts-fit, texts-length, records-back, texts-more, texts-replaced}
+use Rattle.decoder.proofs.SeedSearch.{Spot, found-spot, absent-has}
 use Rattle.decoder.proofs.LegalRead.{Recordable}
+use Rattle.decoder.proofs.Moves.{Move, added, full, met, Step}
 
 -- how many whole records fit a buffer
 abbrev pub room : ℕ → List ℕ → ℕ
@@ -29,24 +29,25 @@ room L lent = length lent / recordBytes L
 -- the count that the next call is handed
 abbrev pub countAfter : ℕ → Stored → ℕ
 countAfter count (accepted n) = n
+countAfter count (replaced n) = n
 countAfter count (repeat n) = n
 countAfter count (refusal q) = count
 
--- the records so far, and the reading's if its seed is new
-abbrev pub grown : List Record → Reading → List Record
-grown rs (droplet s p k) = cond (hasSeed s rs) rs (rs ++ (record { seed = s; payload = p } ∷ []))
-grown rs (refused q) = rs
+-- a store that holds records, no more than fit
+pub record Stocked (L : ℕ) (lent : List ℕ) (rs : List Record) (buffer : List ℕ) (count : ℕ) : Type 0 where
+  pub good : All (IsRecord L) rs
+  pub holds : Holds L lent rs buffer count
+  pub fits : length rs ≤ room L lent
 
--- after a call the store holds as many of these records as fit
-abbrev pub HoldsAfter : ℕ → List ℕ → List Record → ℕ → Kept → Type 0
-HoldsAfter L lent rs count k = Holds L lent (take (room L lent) rs) (keptBuffer k) (countAfter count (keptAnswer k))
+-- what a call leaves, as a step from some records to others
+pub record Moved (L : ℕ) (lent : List ℕ) (rs : List Record) (count : ℕ) (reading : Reading) (k : Kept) : Type 0 where
+  pub rs′ : List Record
+  pub step : Step (room L lent) rs reading (keptAnswer k) rs′
+  pub stocked : Stocked L lent rs′ (keptBuffer k) (countAfter count (keptAnswer k))
 
 module _ (L : ℕ) (lent : List ℕ) where
-  pub held-records : (rs : List Record) (buffer : List ℕ) (count : ℕ) → All (IsRecord L) rs → Holds L lent rs buffer count → records L count buffer ≡ rs
-  held-records rs buffer count good h = ap₂ (records L) (h .number) (h .bytes) ∙ records-back L rs (drop (length rs * recordBytes L) lent) good
-
-  fits : (n : ℕ) → n ≤ room L lent → n * recordBytes L ≤ length lent
-  fits n = le-div-iff-mul-le {k = recordBytes L} (omega (arith, parts-fit L)) .0
+  within : (n : ℕ) → n ≤ room L lent → n * recordBytes L ≤ length lent
+  within n = le-div-iff-mul-le {k = recordBytes L} (omega (arith, parts-fit L)) .0
 
   pub fitted : (n : ℕ) → n * recordBytes L ≤ length lent → n ≤ room L lent
   fitted n = le-div-iff-mul-le {k = recordBytes L} (omega (arith, parts-fit L)) .1
@@ -54,65 +55,100 @@ module _ (L : ℕ) (lent : List ℕ) where
   crowded : (n : ℕ) → length lent < suc n * recordBytes L → room L lent < suc n
   crowded n = div-lt-iff-lt-mul {k = recordBytes L} (omega (arith, parts-fit L)) .1
 
-  module _ (rs : List Record) (good : All (IsRecord L) rs) (buffer : List ℕ) (count : ℕ) (h : Holds L lent (take (room L lent) rs) buffer count) where
-    held-count : count ≡ min (room L lent) (length rs)
-    held-count = h .number ∙ length-take (room L lent) rs
+  pub held-records : (rs : List Record) (buffer : List ℕ) (count : ℕ) → Stocked L lent rs buffer count → records L count buffer ≡ rs
+  held-records rs buffer count h =
+      ap₂ (records L) (h .holds .number) (h .holds .bytes) ∙ records-back L rs (drop (length rs * recordBytes L) lent) (h .good)
 
-    held-good : All (IsRecord L) (take (room L lent) rs)
-    held-good = all-front (IsRecord L) (room L lent) rs good
-
+  module _ (rs : List Record) (buffer : List ℕ) (count : ℕ) (h : Stocked L lent rs buffer count) where
     held-length : length buffer ≡ length lent
     held-length =
-        let texts : length (recordsText (take (room L lent) rs)) ≡ count * recordBytes L
-        = rw (h .number) (texts-length L (take (room L lent) rs) held-good) in
-        rw (h .bytes, length-append, length-drop, ← h .number) (omega (arith, fits count (omega (arith, held-count))))
+        rw (h .holds .bytes, length-append, length-drop) (omega (arith, texts-length L rs (h .good), within (length rs) (h .fits)))
 
     pub held-fits : countFits L buffer count ≡ true
-    held-fits = le-leb (count * recordBytes L) (length buffer) (rw held-length (fits count (omega (arith, held-count))))
+    held-fits = le-leb (count * recordBytes L) (length buffer) (rw (held-length, h .holds .number) (within (length rs) (h .fits)))
 
-    appended-new : (r : Record) → IsRecord L r → HoldsAfter L lent (rs ++ (r ∷ [])) count (appended L buffer count r)
-    unfolding appended
-    appended-new r f =
-        elim (either (leb (suc count * recordBytes L) (length buffer))) [
-          | inl t ↦
-              let space = fitted (suc count) (rw held-length at (leb-true (suc count * recordBytes L) (length buffer) t)) in
-              let n : count ≡ length rs = omega (arith, held-count) in
-              let all : take (room L lent) rs ≡ rs = take-all (room L lent) rs (omega arith) in
-              let bytes : buffer ≡ recordsText rs ++ drop (length rs * recordBytes L) lent = rw all at (h .bytes) in
-              rw (t, take-all (room L lent) (rs ++ (r ∷ [])) (rw length-append (omega arith)))
-              (record { number = rw length-append (omega arith); bytes = rw (bytes, n) (texts-more L lent rs r good f) })
-          | inr t ↦
-              let full = crowded count (rw held-length at (leb-false (suc count * recordBytes L) (length buffer) t)) in
-              rw (t, take-append-le (room L lent) rs (r ∷ []) (omega (arith, held-count))) h
-        ]
+    module _ (r : Record) (fine : IsRecord L r) where
+      -- what a call with this answer and buffer leaves of records that are offered r
+      abbrev Leaves : Kept → Type 0
+      Leaves k = (rs′ : List Record) × Move (room L lent) rs r (keptAnswer k) rs′ × Stocked L lent rs′ (keptBuffer k) (countAfter count (keptAnswer k))
 
-    appended-full : (r : Record) → room L lent < length rs → HoldsAfter L lent rs count (appended L buffer count r)
-    unfolding appended
-    appended-full r more =
-        elim (either (leb (suc count * recordBytes L) (length buffer))) [
-          | inl t ↦
-              let space = fitted (suc count) (rw held-length at (leb-true (suc count * recordBytes L) (length buffer) t)) in
-              absurd (let z : ⊥ = omega (arith, held-count) in z)
-          | inr t ↦ rw t h
-        ]
+      appended-moves : findSeed (r .seed) rs ≡ absent → Leaves (appended L buffer count r)
+      unfolding appended
+      appended-moves e =
+          let new = absent-has (r .seed) rs e in
+          elim (either (leb (suc count * recordBytes L) (length buffer))) [
+            | inl t ↦
+                let space : suc (length rs) * recordBytes L ≤ length lent
+                = rw (held-length, h .holds .number) at (leb-true (suc count * recordBytes L) (length buffer) t) in
+                let less = fitted (suc (length rs)) space in
+                rw t (
+                  rs ++ (r ∷ []),
+                  added (record { new = new; space = less; says = ap (λ (n : ℕ). accepted (suc n)) (h .holds .number); now = refl }),
+                  record {
+                    good = all-append (IsRecord L) rs (r ∷ []) (h .good) (fine, tt);
+                    holds = record {
+                      number = ap suc (h .holds .number) ∙ rw (length-append rs (r ∷ [])) (omega arith);
+                      bytes = rw (h .holds .bytes, h .holds .number) (texts-more L lent rs r (h .good) fine space);
+                    };
+                    fits = rw (length-append rs (r ∷ [])) (omega arith);
+                  },
+                )
+            | inr t ↦
+                let none = crowded (length rs) (rw (held-length, h .holds .number) at (leb-false (suc count * recordBytes L) (length buffer) t)) in
+                rw t (rs, full (record { new = new; none = omega arith; says = refl; now = refl }), h)
+          ]
 
-    compared-holds : (s : ℕ) (p : List ℕ) (k : ℕ) → IsRecord L (record { seed = s; payload = p }) → (o : Found)
-        → findSeed s (take (room L lent) rs) ≡ o
-        → HoldsAfter L lent (grown rs (droplet s p k)) count (compared L buffer count (record { seed = s; payload = p }) o)
-    unfolding compared
-    compared-holds s p k f absent e =
-        elim (either (hasSeed s rs)) [
-          | inl t ↦
-              rw t (appended-full (record { seed = s; payload = p })
-              (later-has s (room L lent) rs t (absent-has s (take (room L lent) rs) e)))
-          | inr t ↦ rw t (appended-new (record { seed = s; payload = p }) f)
-        ]
-    compared-holds s p k f (found q) e =
-        rw (front-has s (room L lent) rs (found-has s (take (room L lent) rs) q e))
-        (elim (either (sameBytes q p)) [ inl t ↦ rw t h | inr t ↦ rw t h ])
+      module _ (i : ℕ) (q : Record) (spot : Spot (r .seed) rs i q) where
+        good-here : All (IsRecord L) (spot .before ++ (q ∷ spot .after))
+        good-here = rw (spot .parts) at (h .good)
 
-    pub reading-holds : (o : Reading) → Recordable L o → HoldsAfter L lent (grown rs o) count (storeReading L buffer count o)
+        good-after : All (IsRecord L) (q ∷ spot .after)
+        good-after = all-after (IsRecord L) (spot .before) (q ∷ spot .after) good-here
+
+        good-before : All (IsRecord L) (spot .before)
+        good-before = all-before (IsRecord L) (spot .before) (q ∷ spot .after) good-here
+
+        -- the store with payload and state of r written over those of q
+        replaced-bytes : overwritten (evidencePlace (i * recordBytes L)) (evidenceText (r .payload) (r .clean)) buffer
+            ≡ recordsText (spot .before ++ (r ∷ spot .after)) ++ drop (length rs * recordBytes L) lent
+        replaced-bytes =
+            rw (h .holds .bytes ∙ ap (λ (l : List Record). recordsText l ++ drop (length rs * recordBytes L) lent) (spot .parts), ← spot .place)
+            (texts-replaced L (spot .before) q (spot .after) (drop (length rs * recordBytes L) lent) r good-before (good-after .0) fine (sym (spot .seed)))
+
+        replaced-stocked : Stocked L lent (spot .before ++ (r ∷ spot .after)) (overwritten (evidencePlace (i * recordBytes L)) (evidenceText (r .payload) (r .clean)) buffer) count
+        replaced-stocked =
+            let n : length (spot .before ++ (r ∷ spot .after)) ≡ length rs
+            = rw (spot .parts, length-append (spot .before) (r ∷ spot .after), length-append (spot .before) (q ∷ spot .after)) in
+            record {
+              good = all-append (IsRecord L) (spot .before) (r ∷ spot .after) good-before (fine, good-after .1);
+              holds = record { number = h .holds .number ∙ sym n; bytes = rw n replaced-bytes };
+              fits = rw n (h .fits);
+            }
+
+      compared-moves : (o : Found) → findSeed (r .seed) rs ≡ o → Leaves (compared L buffer count r o)
+      unfolding compared
+      compared-moves absent e = appended-moves e
+      compared-moves (found i q) e =
+          let spot = found-spot (r .seed) rs i q e in
+          elim (either (better r q)) [
+            | inl b ↦
+                rw b (
+                  spot .before ++ (r ∷ spot .after),
+                  met (record { i = i; q = q; spot = spot; says = rw b (ap replaced (h .holds .number)); now = rw b }),
+                  replaced-stocked i q spot,
+                )
+            | inr b ↦
+                rw b
+                (elim (either (sameBytes (q .payload) (r .payload))) [
+                  | inl t ↦ rw t (rs, met (record { i = i; q = q; spot = spot; says = rw (b, t) (ap repeat (h .holds .number)); now = rw b (spot .parts) }), h)
+                  | inr t ↦ rw t (rs, met (record { i = i; q = q; spot = spot; says = rw (b, t); now = rw b (spot .parts) }), h)
+                ])
+          ]
+
+    pub reading-moves : (o : Reading) → Recordable L o → Moved L lent rs count o (storeReading L buffer count o)
     unfolding storeReading storeRecord
-    reading-holds (refused q) f = record { number = h .number; bytes = rw (h .bytes) }
-    reading-holds (droplet s p k) f =
-        compared-holds s p k f (findSeed s (records L count buffer)) (ap (findSeed s) (sym (held-records (take (room L lent) rs) buffer count held-good h)))
+    reading-moves (refused n) f = record { rs′ = rs; step = record { says = refl; now = refl }; stocked = h }
+    reading-moves (droplet s p k) f =
+        let r = dropletRecord s p k in
+        let left = compared-moves r f (findSeed s (records L count buffer)) (ap (findSeed s) (sym (held-records rs buffer count h))) in
+        record { rs′ = left .0; step = left .1; stocked = left .2 }

@@ -1,7 +1,7 @@
--- Document 01, "Bench examples": all starred lines, each part of each, and then examples of document 02's Item 1 and our own of Items 3, 12,
--- 2 and 14, as rows of one list under one proposition, over the definitions that the contracts cite. Assumes nothing.
+-- Document 01, "Bench examples": all starred lines, each part of each, and then examples of document 02's Item 1 and our own of Items 3, 5,
+-- 12, 2 and 14, as rows of one list under one proposition, over the definitions that the contracts cite. Assumes nothing.
 use mathlib.Core.Path.{_≡_, refl}
-use mathlib.Core.Bool.{true, false}
+use mathlib.Core.Bool.{Bool, true, false}
 use mathlib.Core.List.{List, [], _∷_, _++_}
 use Prim.Native.Nat.{ℕ, zero, suc, _+_, _*_}
 use lib.ListN.{replicate}
@@ -24,8 +24,9 @@ use Rattle.strand.specs.Sites.{siteBefore, siteAfter}
 use Rattle.strand.specs.Screen.{orderOf, withBase, longestOf, longestRun, gcCount, measureOf, verdict, wordVerdict, screenPasses}
 use Rattle.strand.specs.ReadCheck.{Reading, droplet, refused, strandReading, wordReading, lettersReading, readCheck, strandWord}
 use Rattle.strand.specs.Writer.{seedWord, oneTry, writeFrom, writerRun, ownRefusal, writerRefusal, Written, written, writerAnswer}
-use Rattle.decoder.specs.Store.{accepted, repeat, Kept, kept, recordBytes, recordText, recordPayload, recordFrom, records, findSeed, appended, compared, storeRecord, storeReading, storeRead}
+use Rattle.decoder.specs.Store.{Record, accepted, replaced, repeat, Kept, kept, recordBytes, evidenceText, recordText, recordPayload, recordState, recordFrom, records, findSeed, overwritten, appended, compared, storeRecord, storeReading, storeRead}
 use Rattle.decoder.specs.Store.Stored.{refusal}
+use Rattle.decoder.specs.Demand3.{those, bestOf}
 use Rattle.decoder.specs.Restorer.{droplets, marked, missing, known, filled, filledBy, step, pass, present, peel, cleared, peelAll, contradicts, contradictions, hasSeed, roomRefusal, laterRefusal, restoreRefusal, restored, RestoreEnd, restoreEnd, restore}
 
 -- card P's bytes
@@ -74,6 +75,8 @@ pub data Row : Type 0 where
   steps : ℕ → ℕ → Row
   answers : List ℕ → ℕ → Row
   restores : List (List ℕ) → RestoreEnd → Row
+  stores : List ℕ → ℕ → List ℕ → Kept → Row
+  best : ℕ → List Record → List Record → Row
   writes : Card → ℕ → ℕ → ℕ → Written → Row
   cutsCard : Card → List ℕ → List ℕ → CutEnd → Row
   deals : Card → List ℕ → List ℕ → ReorderEnd → Row
@@ -87,6 +90,7 @@ drawnFrom d (n ∷ ns) = numberDrawn (afterDraw d) ∷ drawnFrom (afterDraw d) n
 -- the store after reads that are offered in this order
 abbrev pub counted : ℕ → Kept → ℕ
 counted count (kept (accepted n) buffer) = n
+counted count (kept (replaced n) buffer) = n
 counted count (kept (repeat n) buffer) = n
 counted count (kept (refusal q) buffer) = count
 
@@ -111,6 +115,8 @@ Holds (reads m lo letters reading) = readCheck (cardP m lo) (weights 2 1) letter
 Holds (steps s t) = seedAfter s ≡ t
 Holds (answers ws n) = cardRefusal (cardP 15 214) ws ≡ n
 Holds (restores offered end) = restoreAfter offered (replicate 20 7) 0 ≡ end
+Holds (stores buffer count read end) = storeRead (cardP 15 214) (weights 2 1) buffer count read ≡ end
+Holds (best s taken one) = bestOf s taken ≡ one
 Holds (writes c start wanted budget answer) = writerAnswer c (weights 2 1) fileQ start wanted budget (wanted * (strandBases c + 1)) 2 ≡ answer
 Holds (cutsCard c ws buffer end) = cutCard c ws buffer ≡ end
 Holds (deals c source target end) = reorderFile false c (weights 2 1) source target ≡ end
@@ -140,6 +146,16 @@ twoBytesWrong = textLetters "TAAAAAAAAAAAAAACTGCAATCGTCAA"
 abbrev pub zeroMisread : List ℕ
 zeroMisread = textLetters "AAAAAAAAAAAAAAAAAAAAAAAAAAAC"
 
+-- the record of seed 1 with a payload and a state byte, a mended one of seed 2, and the first as a definition (document 02, Item 5)
+abbrev pub bytesOf1 : ℕ → ℕ → List ℕ
+bytesOf1 payload state = 0 ∷ 0 ∷ 0 ∷ 1 ∷ payload ∷ state ∷ []
+
+abbrev pub bytesOf2 : List ℕ
+bytesOf2 = 0 ∷ 0 ∷ 0 ∷ 2 ∷ 0x69 ∷ 1 ∷ []
+
+abbrev pub recordOf1 : ℕ → Bool → Record
+recordOf1 payload clean = record { seed = 1; payload = payload ∷ []; clean = clean }
+
 -- document 02, Item 1: strands that make a run with the site behind or before them or just miss one, and two with no run over 2 and
 -- over 1, though both sites have runs of 3
 abbrev pub endsInTTT : List ℕ
@@ -160,11 +176,14 @@ runsOfTwo = textLetters "ATCTCCATTAGCGTTCTTGGTAAGAGGA"
 abbrev pub noRuns : List ℕ
 noRuns = textLetters "GACAGTATCTCGCATGCTCTGCTATGCA"
 
--- the last twenty: a read with one byte wrong, whose mended strand has a run of 15 though the read has none over 11, one with two, and one
--- whose mended seed is 0 (document 02, Item 3); ten strands of Q, with the strands dropped on the way under three pairs of limits, and a budget that is spent on a
--- strand with both faults (document 02, Item 12); card P cut into a buffer with a byte to spare and into one a byte short, and a plan
--- that is refused before the buffer is (Item 2); the card with W 3 read and cut, its file dealt and undealt, each from a byte more into a
--- byte more, and W 7, 1 and 8, a source and a target a byte short (Item 14)
+-- the last thirty-one: a read with one byte wrong, whose mended strand has a run of 15 though the read has none over 11, one with two, and
+-- one whose mended seed is 0 (document 02, Item 3); the first of these accepted as mended, its strand over it, over a mended record with
+-- another payload and a state of 7, and beside a clean one with another payload, the mended read beside a clean and a mended record with
+-- the same payload and with another, the strand over the second of three records, of which the third has its seed too, and the best of
+-- some reads (Item 5); ten strands of Q, with the strands dropped on the way under three pairs of limits, and a budget that is spent on a
+-- strand with both faults (Item 12); card P cut into a buffer with a byte to spare and into one a byte short, and a plan that is refused
+-- before the buffer is (Item 2); the card with W 3 read and cut, its file dealt and undealt, each from a byte more into a byte more, and
+-- W 7, 1 and 8, a source and a target a byte short (Item 14)
 abbrev pub rows : List Row
 rows =
     cards bytesP (cardP 15 214) (weights 2 1)
@@ -199,6 +218,18 @@ rows =
     ∷ reads 14 214 oneByteWrong (refused 13)
     ∷ reads 15 214 twoBytesWrong (refused 11)
     ∷ reads 15 214 zeroMisread (refused 12)
+    ∷ stores (replicate 7 7) 0 oneByteWrong (kept (accepted 1) (bytesOf1 0xE4 1 ++ (7 ∷ [])))
+    ∷ stores (bytesOf1 0xE4 1 ++ (7 ∷ [])) 1 letters1 (kept (replaced 1) (bytesOf1 0xE4 0 ++ (7 ∷ [])))
+    ∷ stores (bytesOf1 0xE5 7) 1 letters1 (kept (replaced 1) (bytesOf1 0xE4 0))
+    ∷ stores (bytesOf1 0xE5 0) 1 letters1 (kept (refusal 15) (bytesOf1 0xE5 0))
+    ∷ stores (bytesOf1 0xE4 0) 1 oneByteWrong (kept (repeat 1) (bytesOf1 0xE4 0))
+    ∷ stores (bytesOf1 0xE4 7) 1 oneByteWrong (kept (repeat 1) (bytesOf1 0xE4 7))
+    ∷ stores (bytesOf1 0xE5 1) 1 oneByteWrong (kept (refusal 15) (bytesOf1 0xE5 1))
+    ∷ stores (bytesOf1 0xE5 0) 1 oneByteWrong (kept (refusal 15) (bytesOf1 0xE5 0))
+    ∷ stores (bytesOf2 ++ (bytesOf1 0xE5 1 ++ bytesOf1 0xE5 1)) 3 letters1
+    (kept (replaced 3) (bytesOf2 ++ (bytesOf1 0xE4 0 ++ bytesOf1 0xE5 1)))
+    ∷ best 1 (recordOf1 0xE5 false ∷ recordOf1 0xE4 true ∷ recordOf1 0xE6 true ∷ []) (recordOf1 0xE4 true ∷ [])
+    ∷ best 1 (recordOf1 0xE5 false ∷ recordOf1 0xE4 false ∷ []) (recordOf1 0xE5 false ∷ [])
     ∷ writes (limitsP 3 450 550) 0x12345678 10 1000 (written Done 10 62 0xD862C7F9 23 29)
     ∷ writes (limitsP 4 450 550) 0x12345678 10 1000 (written Done 10 49 0x506EC32B 7 32)
     ∷ writes (limitsP 3 400 600) 0x12345678 10 1000 (written Done 10 13 0x8ACEB9DE 2 1)
@@ -218,7 +249,7 @@ rows =
     ∷ []
 
 pub examples : All Holds rows
-unfolding cardReading cardReadingRefusal wellFormed cardBytes widthField fieldBytes toTwoBytes cardNumbers weightsEnd widthThere widthRight cutCard withRemainder firstColumns interleave columnStart interleavedPlace tableOf deinterleave reordered bothLong reorderRefusal fileReordered reorderFile seedAfter seedWord segmentsOf degreeOf degree degreeFrom pickFrom member ofSeed afterDraw numberDrawn xorshift segment payload padded strandWord toBigEndian fromBigEndian parity remainderAfter xorLists multiple byRoot timesPower double shiftUp horner syndromes cardRefusal sizesRight limitsRight weightsRight segmentCount strandBytes firstWeights weightAt numberAt letterOf letterBits allLetters byteBases wordBases byteLetters wordLetters lettersByte lettersWord textLetters lettersBases siteBefore siteAfter orderOf withBase longestOf longestRun gcCount measureOf verdict wordVerdict screenPasses sumsZero differs distance firstOf within corrected strandReading wordReading lettersReading readCheck recordBytes recordText recordPayload recordFrom records sameBytes findSeed appended compared storeRecord storeReading storeRead droplets marked missing known filled filledBy step pass present peel cleared peelAll contradicts contradictions hasSeed roomRefusal laterRefusal restoreRefusal restore oneTry writeFrom writerRun ownRefusal writerRefusal
+unfolding cardReading cardReadingRefusal wellFormed cardBytes widthField fieldBytes toTwoBytes cardNumbers weightsEnd widthThere widthRight cutCard withRemainder firstColumns interleave columnStart interleavedPlace tableOf deinterleave reordered bothLong reorderRefusal fileReordered reorderFile seedAfter seedWord segmentsOf degreeOf degree degreeFrom pickFrom member ofSeed afterDraw numberDrawn xorshift segment payload padded strandWord toBigEndian fromBigEndian parity remainderAfter xorLists multiple byRoot timesPower double shiftUp horner syndromes cardRefusal sizesRight limitsRight weightsRight segmentCount strandBytes firstWeights weightAt numberAt letterOf letterBits allLetters byteBases wordBases byteLetters wordLetters lettersByte lettersWord textLetters lettersBases siteBefore siteAfter orderOf withBase longestOf longestRun gcCount measureOf verdict wordVerdict screenPasses sumsZero differs distance firstOf within corrected strandReading wordReading lettersReading readCheck recordBytes evidenceText recordText recordPayload recordState recordFrom records sameBytes findSeed overwritten appended compared storeRecord storeReading storeRead those bestOf droplets marked missing known filled filledBy step pass present peel cleared peelAll contradicts contradictions hasSeed roomRefusal laterRefusal restoreRefusal restore oneTry writeFrom writerRun ownRefusal writerRefusal
 examples = (
   (refl, refl),
   (
@@ -235,7 +266,7 @@ examples = (
               refl,
               (
                 (refl, refl, refl, refl),
-                (refl, (refl, (refl, (refl, (refl, (refl, (refl, (refl, (refl, (refl, (refl, (refl, (refl, (refl, (refl, (refl, (refl, (refl, (refl, (refl, (refl, (refl, (refl, (refl, (refl, (refl, (refl, (refl, (refl, (refl, ((refl, refl), (refl, (refl, (refl, (refl, (refl, (refl, (refl, (refl, tt))))))))))))))))))))))))))))))))))))))),
+                (refl, (refl, (refl, (refl, (refl, (refl, (refl, (refl, (refl, (refl, (refl, (refl, (refl, (refl, (refl, (refl, (refl, (refl, (refl, (refl, (refl, (refl, (refl, (refl, (refl, (refl, (refl, (refl, (refl, (refl, (refl, (refl, (refl, (refl, (refl, (refl, (refl, (refl, (refl, (refl, (refl, ((refl, refl), (refl, (refl, (refl, (refl, (refl, (refl, (refl, (refl, tt)))))))))))))))))))))))))))))))))))))))))))))))))),
               ),
             ),
           ),

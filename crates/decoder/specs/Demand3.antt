@@ -1,42 +1,68 @@
--- Demand 3, as one claim about every list of store calls and every restore under one accepted card. Assumes nothing.
+-- Demand 3, its opening sentence as document 02's Item 5 restates it, as one claim about every list of store calls and every restore under
+-- one accepted card. Assumes nothing.
 use mathlib.Core.Path.{_≡_}
 use mathlib.Core.Logic.{_↔_}
-use mathlib.Core.Bool.{Bool, true, false, cond}
-use mathlib.Core.List.{List, [], _∷_, _++_}
+use mathlib.Core.Bool.{Bool, true, false, cond, not, _&&_}
+use mathlib.Core.List.{List, [], _∷_, _++_, map}
 use Prim.Native.Nat.{ℕ, suc, _+_, _*_, _/_, _<_, _≤_}
+use lib.Dec.{eqb}
 use lib.ListN.{length, take, drop}
 use Rattle.field.specs.Bytes.{All, AllBytes}
 use Rattle.droplet.specs.declared.card.Card.{Card}
 use Rattle.droplet.specs.PoolCard.{segmentCount, cardWeights}
-use Rattle.droplet.specs.Questions.{accepted, cardReading}
-use Rattle.droplet.specs.Droplet.{segment, payload, segmentsOf, Distinct}
+use Rattle.droplet.specs.Questions.{CardRead, cardReading}
+use Rattle.droplet.specs.Droplet.{member, segment, payload, segmentsOf, Distinct}
 use Rattle.strand.specs.ReadCheck.{Reading, droplet, refused, readCheck}
 use Rattle.decoder.specs.declared.store.StoreAnswer.{StoreAnswer}
 use Rattle.decoder.specs.declared.store.StoreAnswer.the-variants as reply
 use Rattle.decoder.specs.declared.restorer.Sheet.{Sheet}
 use Rattle.decoder.specs.declared.restorer.RestoreAnswer.the-variants as sheet
-use Rattle.decoder.specs.Store.{Record, recordBytes, recordsText, StorePromise}
-use Rattle.decoder.specs.Restorer.{Droplet, droplets, marked, hasSeed, present, RestorePromise}
+use Rattle.decoder.specs.Store.{Record, recordBytes, recordsText, Stored, accepted, repeat, replaced, refusal, storeAnswer, dropletRecord, StorePromise}
+use Rattle.decoder.specs.Restorer.{Droplet, droplets, marked, present, RestorePromise}
 
 -- ---- the store
 
+-- the seeds of records or reads
+abbrev pub seedsOf : List Record → List ℕ
+seedsOf rs = map (λ r. r .seed) rs
+
 -- "keep the legal ones", in the order offered: those that the read check accepts, corrected ones among them
 abbrev pub keptReading : Reading → List Record → List Record
-keptReading (droplet s p k) rest = record { seed = s; payload = p } ∷ rest
+keptReading (droplet s p k) rest = dropletRecord s p k ∷ rest
 keptReading (refused n) rest = rest
 
 unfoldable pub legalReads : Card → List ℕ → List (List ℕ) → List Record
 legalReads c weights [] = []
 legalReads c weights (r ∷ rs) = keptReading (readCheck c weights r) (legalReads c weights rs)
 
--- "whose seed no earlier legal one has", where `seen` went before
-unfoldable pub firstOfSeed : List Record → List Record → List Record
-firstOfSeed seen [] = []
-firstOfSeed seen (r ∷ rs) = cond (hasSeed (r .seed) seen) (firstOfSeed seen rs) (r ∷ firstOfSeed (seen ++ (r ∷ [])) rs)
+-- "the seeds still stand in the order of their first legal reads", where `seen` went before
+unfoldable pub firstSeeds : List ℕ → List Record → List ℕ
+firstSeeds seen [] = []
+firstSeeds seen (r ∷ rs) = cond (member (r .seed) seen) (firstSeeds seen rs) (r .seed ∷ firstSeeds (seen ++ (r .seed ∷ [])) rs)
 
 -- "and of these only the first ones, as many as whole records fit the buffer"
-unfoldable pub storedRecords : Card → List ℕ → List ℕ → List (List ℕ) → List Record
-storedRecords c weights lent reads = take (length lent / recordBytes (c .l)) (firstOfSeed [] (legalReads c weights reads))
+unfoldable pub storedSeeds : Card → List ℕ → List ℕ → List (List ℕ) → List ℕ
+storedSeeds c weights lent reads = take (length lent / recordBytes (c .l)) (firstSeeds [] (legalReads c weights reads))
+
+-- the clean ones of some reads of a seed, and the corrected (mended) ones, in the order offered
+abbrev pub cleanOf : ℕ → Record → Bool
+cleanOf s r = eqb (r .seed) s && r .clean
+
+abbrev pub correctedOf : ℕ → Record → Bool
+correctedOf s r = eqb (r .seed) s && not (r .clean)
+
+unfoldable pub those : (Record → Bool) → List Record → List Record
+those test [] = []
+those test (r ∷ rs) = cond (test r) (r ∷ those test rs) (those test rs)
+
+-- of some reads a seed's "first clean read .., or its first mended one if there is none": one, or none where no read has the seed
+unfoldable pub bestOf : ℕ → List Record → List Record
+bestOf s reads = take 1 (those (cleanOf s) reads ++ those (correctedOf s) reads)
+
+-- the same of each of these seeds, in this order
+unfoldable pub bestOfEach : List ℕ → List Record → List Record
+bestOfEach [] reads = []
+bestOfEach (s ∷ ss) reads = bestOf s reads ++ bestOfEach ss reads
 
 -- "The count is their number, the records have their seeds and payloads in that order, and the bytes past the records are
 -- as they were lent"
@@ -59,6 +85,7 @@ readsOf (k ∷ ks) = k .read ∷ readsOf ks
 abbrev pub nextCount : ℕ → StoreAnswer → ℕ
 nextCount count (reply.Accepted n) = n
 nextCount count (reply.Repeat n) = n
+nextCount count (reply.Replaced n) = n
 nextCount count (reply.Refused q) = count
 
 -- "Each call is handed shelf and count as the one before left them", and keeps the promise of the store call
@@ -75,6 +102,29 @@ lastBuffer buffer (k ∷ ks) = lastBuffer (k .buffer) ks
 abbrev pub lastCount : ℕ → List Call → ℕ
 lastCount count [] = count
 lastCount count (k ∷ ks) = lastCount (nextCount count (k .answer)) ks
+
+abbrev pub isRefusal : Stored → Bool
+isRefusal (accepted n) = false
+isRefusal (repeat n) = false
+isRefusal (replaced n) = false
+isRefusal (refusal q) = true
+
+-- the legal reads that were "not refused", in the order offered
+unfoldable pub takenReads : Card → List ℕ → List Call → List Record
+takenReads c weights [] = []
+takenReads c weights (k ∷ ks) =
+    cond (isRefusal (storeAnswer (k .answer))) (takenReads c weights ks) (keptReading (readCheck c weights (k .read)) (takenReads c weights ks))
+
+-- "For each seed that found space, the record at the end of the list is now its first clean read that was not refused, or its first mended
+-- one if there is none"
+unfoldable pub storedRecords : Card → List ℕ → List ℕ → List Call → List Record
+storedRecords c weights lent calls = bestOfEach (storedSeeds c weights lent (readsOf calls)) (takenReads c weights calls)
+
+-- these records have those seeds, in that order; and no refusal matters to them: of all legal reads of its seed, refused ones among them, a
+-- record is the first clean one, or the first mended one if there is none
+pub record Best (seeds : List ℕ) (legal : List Record) (rs : List Record) : Type 0 where
+  pub order : seedsOf rs ≡ seeds
+  pub legal-too : rs ≡ bestOfEach seeds legal
 
 -- ---- the restore
 
@@ -115,7 +165,9 @@ pub record Sound (K L : ℕ) (ds : List Droplet) (p s x : ℕ) (file′ marks′
 pub record Claim (c : Card) (weights : List ℕ) : Type 0 where
   -- every list of store calls from an empty store, a buffer of any length and bytes
   pub store : (lent : List ℕ) (calls : List Call) → Chained c weights lent 0 calls
-      → Holds (c .l) lent (storedRecords c weights lent (readsOf calls)) (lastBuffer lent calls) (lastCount 0 calls)
+      → Holds (c .l) lent (storedRecords c weights lent calls) (lastBuffer lent calls) (lastCount 0 calls)
+  pub best : (lent : List ℕ) (calls : List Call) → Chained c weights lent 0 calls
+      → Best (storedSeeds c weights lent (readsOf calls)) (legalReads c weights (readsOf calls)) (storedRecords c weights lent calls)
   -- such a list of calls exists for every list of reads, whatever bytes each offers
   pub calls : (lent : List ℕ) (reads : List (List ℕ)) → (calls : List Call) × Chained c weights lent 0 calls × (readsOf calls ≡ reads)
   -- the sets that seeds pick hold each segment once, and only segments of the pool
@@ -128,4 +180,4 @@ pub record Claim (c : Card) (weights : List ℕ) : Type 0 where
 
 -- "under one accepted card": one that the card reader does not refuse, its numbers and weights handed to every call
 abbrev pub Demand3 : Type 0
-Demand3 = (card : List ℕ) (c : Card) (D : ℕ) → cardReading card ≡ accepted c D → Claim c (cardWeights card)
+Demand3 = (card : List ℕ) (c : Card) (D : ℕ) → cardReading card ≡ CardRead.accepted c D → Claim c (cardWeights card)

@@ -1,11 +1,11 @@
--- Document 01, "Shelf", here a store: a buffer and a count of records from its start, and the store call with its questions 14 to 16.
--- Assumes nothing.
+-- Document 01, "Shelf", here a store: a buffer and a count of records from its start, and the store call with its questions 14 to 16, as
+-- document 02's Item 5 leaves them ("Clean beats mended"). Assumes nothing.
 use mathlib.Core.Path.{_≡_}
-use mathlib.Core.Bool.{Bool, cond}
+use mathlib.Core.Bool.{Bool, cond, not, _&&_}
 use mathlib.Core.List.{List, [], _∷_, _++_}
 use Prim.Native.Nat.{ℕ, zero, suc, _+_, _*_}
 use lib.Dec.{eqb, leb}
-use lib.ListN.{length, take, drop}
+use lib.ListN.{length, getD, take, drop}
 use Rattle.field.specs.Bytes.{fromBigEndian, toBigEndian, sameBytes}
 use Rattle.droplet.specs.declared.card.Card.{Card}
 use Rattle.droplet.specs.Questions.{cardRefusal}
@@ -13,17 +13,33 @@ use Rattle.strand.specs.ReadCheck.{Reading, droplet, refused, readCheck}
 use Rattle.decoder.specs.declared.store.StoreAnswer.{StoreAnswer}
 use Rattle.decoder.specs.declared.store.StoreAnswer.the-variants as answer
 
--- "a record is seed and payload, 4 + L bytes"
+-- "a record is seed and payload", and it "gains a state byte after its payload": whether its read was clean or corrected (mended)
 pub record Record : Type 0 where
   pub seed : ℕ
   pub payload : List ℕ
+  pub clean : Bool
 
--- its width in bytes, and its bytes
+-- "0 clean, 1 mended; any other byte reads as mended"
+abbrev pub stateByte : Bool → ℕ
+stateByte clean = cond clean 0 1
+
+abbrev pub readsClean : ℕ → Bool
+readsClean state = eqb state 0
+
+-- "Records are now 5 + L bytes"
 unfoldable pub recordBytes : ℕ → ℕ
-recordBytes L = 4 + L
+recordBytes L = 5 + L
+
+-- what a record holds of its read: payload and state; and with the seed before them all of its bytes
+unfoldable pub evidenceText : List ℕ → Bool → List ℕ
+evidenceText payload clean = payload ++ (stateByte clean ∷ [])
 
 unfoldable pub recordText : Record → List ℕ
-recordText r = toBigEndian (r .seed) ++ r .payload
+recordText r = toBigEndian (r .seed) ++ evidenceText (r .payload) (r .clean)
+
+-- where payload and state of a record start that itself starts at a place
+abbrev pub evidencePlace : ℕ → ℕ
+evidencePlace at = at + 4
 
 -- the parts of a record's bytes, wherever it ends
 abbrev pub recordSeed : List ℕ → ℕ
@@ -32,8 +48,11 @@ recordSeed bytes = fromBigEndian (take 4 bytes)
 unfoldable pub recordPayload : ℕ → List ℕ → List ℕ
 recordPayload L bytes = take L (drop 4 bytes)
 
+unfoldable pub recordState : ℕ → List ℕ → ℕ
+recordState L bytes = getD bytes (4 + L) 0
+
 unfoldable pub recordFrom : ℕ → List ℕ → Record
-recordFrom L bytes = record { seed = recordSeed bytes; payload = recordPayload L bytes }
+recordFrom L bytes = record { seed = recordSeed bytes; payload = recordPayload L bytes; clean = readsClean (recordState L bytes) }
 
 -- the bytes of records one after the other, and the first n records of a buffer
 unfoldable pub recordsText : List Record → List ℕ
@@ -44,24 +63,30 @@ unfoldable pub records : ℕ → ℕ → List ℕ → List Record
 records L zero buffer = []
 records L (suc n) buffer = recordFrom L buffer ∷ records L n (drop (recordBytes L) buffer)
 
--- the payload of "the first record of its seed", if there is one
+-- "the first record of its seed", if there is one, with its place among the records
 pub data Found : Type 0 where
-  found : List ℕ → Found
+  found : ℕ → Record → Found
   absent : Found
+
+abbrev pub later : Found → Found
+later (found i r) = found (suc i) r
+later absent = absent
 
 unfoldable pub findSeed : ℕ → List Record → Found
 findSeed s [] = absent
-findSeed s (r ∷ rs) = cond (eqb (r .seed) s) (found (r .payload)) (findSeed s rs)
+findSeed s (r ∷ rs) = cond (eqb (r .seed) s) (found 0 r) (later (findSeed s rs))
 
 -- what a store call answers, by its cases: the count after it, or the refusal number
 pub data Stored : Type 0 where
   accepted : ℕ → Stored
   repeat : ℕ → Stored
+  replaced : ℕ → Stored
   refusal : ℕ → Stored
 
 abbrev pub storeAnswer : StoreAnswer → Stored
 storeAnswer (answer.Accepted n) = accepted n
 storeAnswer (answer.Repeat n) = repeat n
+storeAnswer (answer.Replaced n) = replaced n
 storeAnswer (answer.Refused q) = refusal q
 
 -- the answer with the buffer after the call
@@ -74,29 +99,46 @@ keptAnswer (kept a b) = a
 abbrev pub keptBuffer : Kept → List ℕ
 keptBuffer (kept a b) = b
 
+-- a buffer with other bytes from a place on
+unfoldable pub overwritten : ℕ → List ℕ → List ℕ → List ℕ
+overwritten at new buffer = take at buffer ++ (new ++ drop (at + length new) buffer)
+
 -- "None there: the record is appended (accepted)"; 16: "If the seed is new, space for a record?"
 unfoldable pub appended : ℕ → List ℕ → ℕ → Record → Kept
 appended L buffer count r =
     cond (leb (suc count * recordBytes L) (length buffer))
-    (kept (accepted (suc count)) (take (count * recordBytes L) buffer ++ (recordText r ++ drop (suc count * recordBytes L) buffer)))
-    (kept (refusal 16) buffer)
+    (kept (accepted (suc count)) (overwritten (count * recordBytes L) (recordText r) buffer)) (kept (refusal 16) buffer)
 
--- "Same payload: the answer is repeat"; 15: "The first record of this seed, if any, has this payload?"
+-- "A clean read whose seed stands there as mended": whether the read is clean, and whether the record of its seed is; of a read's record
+-- r and the record q of its seed
+abbrev pub takesOver : Bool → Bool → Bool
+takesOver read standing = read && not standing
+
+abbrev pub better : Record → Record → Bool
+better r q = takesOver (r .clean) (q .clean)
+
+-- such a read "takes over payload and state, even where the payloads differ, and the answer is replaced"; "Every other read with the same
+-- payload is a repeat, and every other one with a different payload is refused under 15"
 unfoldable pub compared : ℕ → List ℕ → ℕ → Record → Found → Kept
 compared L buffer count r absent = appended L buffer count r
-compared L buffer count r (found p) = cond (sameBytes p (r .payload)) (kept (repeat count) buffer) (kept (refusal 15) buffer)
+compared L buffer count r (found i q) =
+    cond (better r q) (kept (replaced count) (overwritten (evidencePlace (i * recordBytes L)) (evidenceText (r .payload) (r .clean)) buffer))
+    (cond (sameBytes (q .payload) (r .payload)) (kept (repeat count) buffer) (kept (refusal 15) buffer))
 
 -- a droplet's record, beside those in the store
 unfoldable pub storeRecord : ℕ → List ℕ → ℕ → Record → Kept
 storeRecord L buffer count r = compared L buffer count r (findSeed (r .seed) (records L count buffer))
 
--- "The caller takes the droplet out of the read check's answer, or hands its refusal on"; a read that was corrected is legal as any other
--- (document 02, Item 3)
+-- the record of a droplet that the read check hands out with the number of bytes corrected: clean if there are none
+abbrev pub dropletRecord : ℕ → List ℕ → ℕ → Record
+dropletRecord s p k = record { seed = s; payload = p; clean = eqb k 0 }
+
+-- "The caller takes the droplet out of the read check's answer, or hands its refusal on"
 unfoldable pub storeReading : ℕ → List ℕ → ℕ → Reading → Kept
 storeReading L buffer count (refused q) = kept (refusal q) buffer
-storeReading L buffer count (droplet s p k) = storeRecord L buffer count (record { seed = s; payload = p })
+storeReading L buffer count (droplet s p k) = storeRecord L buffer count (dropletRecord s p k)
 
--- 14: "count times (4+L) within the shelf?"
+-- 14: count times (5 + L) "within the shelf?"
 abbrev pub countFits : ℕ → List ℕ → ℕ → Bool
 countFits L buffer count = leb (count * recordBytes L) (length buffer)
 

@@ -8,17 +8,23 @@ use Rattle.strand.specs.declared.read_check.ReadOutcome.the-variants as outcome
 use Rattle.decoder.specs.declared.store.Place.{Place}
 use Rattle.decoder.specs.declared.store.Place.the-variants.{At, Nowhere}
 use Rattle.decoder.specs.declared.store.StoreAnswer.{StoreAnswer}
-use Rattle.decoder.specs.Store.{recordBytes, recordPayload, Kept, found, absent, findSeed, records, storeAnswer, keptAnswer, keptBuffer}
+use Rattle.decoder.specs.Store.{recordBytes, recordFrom, Kept, found, absent, findSeed, records, storeAnswer, keptAnswer, keptBuffer}
 
 -- a store of `count` records with L payload bytes each
 pub record Within (L count : ℕ) (buffer : List ℕ) : Type 0 where
   pub short : L ≤ 64
   pub fits : count * recordBytes L ≤ length buffer
 
--- what a place says of the search for a seed: the record that starts there is the first of that seed, or none has it
+-- the record that starts at a place is number i of the store, and the first of its seed
+pub record Standing (L count : ℕ) (buffer : List ℕ) (seed at : ℕ) : Type 0 where
+  pub i : ℕ
+  pub place : at ≡ i * recordBytes L
+  pub within : at + recordBytes L ≤ length buffer
+  pub first : findSeed seed (records L count buffer) ≡ found i (recordFrom L (drop at buffer))
+
+-- what a place says of the search for a seed: the first record of it starts there, or none has it
 abbrev pub Sought : ℕ → ℕ → List ℕ → ℕ → Place → Type 0
-Sought L count buffer seed (At at) =
-    (at + recordBytes L ≤ length buffer) × (findSeed seed (records L count buffer) ≡ found (recordPayload L (drop at buffer)))
+Sought L count buffer seed (At at) = Standing L count buffer seed at
 Sought L count buffer seed Nowhere = findSeed seed (records L count buffer) ≡ absent
 
 -- the answer and the buffer after it are those of a storing step

@@ -1,6 +1,7 @@
--- From file to vault and back: what a store and its restore sheet are worth where every legal read differs in at most R/2 bytes from a
--- strand that the writer printed for one file (document 02, Item 3). Reads may be lost, repeated and in any order, and what the read check
--- refuses may be anything.
+-- From file to vault and back: what a store and its restore sheet are worth where every clean legal read is a strand that the writer
+-- printed for one file, and for each seed in the store either such a read was offered, whatever its corrected (mended) reads were (document
+-- 02, Item 5), or each of its legal reads differs in at most R/2 bytes from such a strand (Item 3). Reads may be lost, repeated and in any
+-- order, and what the read check refuses may be anything.
 -- The file is the one that the writer was handed. Where the card has a width, that is the customer's file interleaved (document 02,
 -- Item 14: "what the restorer promises is promised of the dealt file"), and the last step gives the customer's. Assumes nothing.
 use mathlib.Core.Path.{_≡_}
@@ -23,9 +24,9 @@ use Rattle.strand.specs.WriterRuns.{PrintedRun, printedLine}
 use Rattle.decoder.specs.declared.store.StoreAnswer.the-variants as reply
 use Rattle.decoder.specs.declared.restorer.Sheet.{Sheet}
 use Rattle.decoder.specs.declared.restorer.RestoreAnswer.the-variants as sheet
-use Rattle.decoder.specs.Store.{Record, recordBytes}
+use Rattle.decoder.specs.Store.{Record, recordBytes, records}
 use Rattle.decoder.specs.Restorer.{Droplet, droplets, marked, present, RestorePromise}
-use Rattle.decoder.specs.Demand3.{legalReads, firstOfSeed, Call, readsOf, Chained, lastBuffer, lastCount, GivesAll}
+use Rattle.decoder.specs.Demand3.{legalReads, firstSeeds, seedsOf, Call, readsOf, Chained, lastBuffer, lastCount, GivesAll}
 
 -- x stands in a list
 abbrev pub Among : {A : Type 0} → A → List A → Type 0
@@ -46,6 +47,10 @@ abbrev pub storeAfter : List ℕ → List Call → LentStore
 storeAfter lent calls = record { buffer = lastBuffer lent calls; count = lastCount 0 calls }
 
 module _ (c : Card) (weights : List ℕ) where
+  -- the records in a store
+  abbrev pub recordsOn : LentStore → List Record
+  recordsOn store = records (c .l) (store .count) (store .buffer)
+
   -- "The droplets on a shelf are its records, each with the set that its seed picks"
   abbrev pub dropletsOn : LentStore → List Droplet
   dropletsOn store = droplets c weights (store .buffer) (store .count)
@@ -54,9 +59,13 @@ module _ (c : Card) (weights : List ℕ) where
   abbrev pub legalOf : List Call → List Record
   legalOf calls = legalReads c weights (readsOf calls)
 
+  -- the seeds that they have
+  abbrev pub legalSeeds : List Call → List ℕ
+  legalSeeds calls = seedsOf (legalOf calls)
+
   -- the buffer has room for a record of each seed that the legal reads have
   abbrev pub RoomForAll : List ℕ → List Call → Type 0
-  RoomForAll lent calls = length (firstOfSeed [] (legalOf calls)) * recordBytes (c .l) ≤ length lent
+  RoomForAll lent calls = length (firstSeeds [] (legalOf calls)) * recordBytes (c .l) ≤ length lent
 
   -- ---- the premises: what the writer printed, what was stored, what was restored
 
@@ -73,17 +82,37 @@ module _ (c : Card) (weights : List ℕ) where
     pub printed : PrintedStrand file strand
     pub near : NearStrand c strand read
 
-  -- each read that the read check accepts is so near to a strand that the writer prints for this file
+  -- each legal read, that is each that the read check accepts, is so near to a strand that the writer prints for this file
   abbrev pub LegalPrinted : List ℕ → List (List ℕ) → Type 0
   LegalPrinted file reads =
       All (λ read. (s : ℕ) (p : List ℕ) (k : ℕ) → readCheck c weights read ≡ droplet s p k → MisreadStrand file read) reads
+
+  -- each legal read of one seed is so near to such a strand
+  abbrev pub SeedPrinted : List ℕ → List (List ℕ) → ℕ → Type 0
+  SeedPrinted file reads s =
+      All (λ read. (p : List ℕ) (k : ℕ) → readCheck c weights read ≡ droplet s p k → MisreadStrand file read) reads
+
+  -- each clean legal read, one with no byte corrected, is itself such a strand
+  abbrev pub CleanPrinted : List ℕ → List (List ℕ) → Type 0
+  CleanPrinted file reads = All (λ read. (s : ℕ) (p : List ℕ) → readCheck c weights read ≡ droplet s p 0 → PrintedStrand file read) reads
+
+  -- a clean read of a seed among some reads
+  pub record CleanOffered (reads : List (List ℕ)) (s : ℕ) : Type 0 where
+    pub read : List ℕ
+    pub payload : List ℕ
+    pub among : Among read reads
+    pub clean : readCheck c weights read ≡ droplet s payload 0
 
   -- a job: a file of F bytes, and store calls from an empty store, a buffer of any length and bytes
   pub record Job (file lent : List ℕ) (calls : List Call) : Type 0 where
     pub size : length file ≡ c .f
     pub bytes : AllBytes file
     pub chained : Chained c weights lent 0 calls
-    pub printed : LegalPrinted file (readsOf calls)
+    -- every clean legal read is a strand of the file
+    pub clean : CleanPrinted file (readsOf calls)
+    -- and each record in the store is of a clean read, whatever the corrected reads of its seed were; or else each legal read of its seed is
+    -- near to a strand of the file
+    pub seeds : All (λ r. (r .clean ≡ true) ⊎ SeedPrinted file (readsOf calls) (r .seed)) (recordsOn (storeAfter lent calls))
 
   -- the customer's own file of F bytes, dealt by a call: the first F bytes of what it leaves are the file that the writer is handed
   pub record InterleavedFrom (original file : List ℕ) : Type 0 where
@@ -141,19 +170,34 @@ module _ (c : Card) (weights : List ℕ) where
     -- dealing it is done, and gives a file of F bytes
     pub interleaved : (original file : List ℕ) (from : InterleavedFrom original file)
         → (reorderAnswer (from .answer) ≡ done) × (length file ≡ c .f) × AllBytes file
-    -- such jobs exist, for every list of reads of which the legal ones are so near to strands of the file
-    pub jobs : (file lent : List ℕ) (reads : List (List ℕ)) → length file ≡ c .f → AllBytes file → LegalPrinted file reads
-        → (calls : List Call) × Job file lent calls × (readsOf calls ≡ reads)
+    -- there are calls for every list of reads
+    pub calls : (lent : List ℕ) (reads : List (List ℕ)) → (calls : List Call) × Chained c weights lent 0 calls × (readsOf calls ≡ reads)
+    -- they are a job where the legal reads are near to strands of the file
+    pub jobs : (file lent : List ℕ) (calls : List Call) → length file ≡ c .f → AllBytes file → Chained c weights lent 0 calls
+        → LegalPrinted file (readsOf calls) → Job file lent calls
+    -- and where the clean ones are strands of the file, and each seed in the store had one of these among the reads offered, or its legal reads
+    -- are near to strands of the file
+    pub clean-jobs : (file lent : List ℕ) (calls : List Call) → length file ≡ c .f → AllBytes file → Chained c weights lent 0 calls
+        → CleanPrinted file (readsOf calls)
+        → All (λ r. CleanOffered (readsOf calls) (r .seed) ⊎ SeedPrinted file (readsOf calls) (r .seed)) (recordsOn (storeAfter lent calls))
+        → Job file lent calls
     -- every strand that the writer prints is a legal read: its seed, and the file's payload for it; and a read that is damaged in at most
     -- R/2 of its bytes is always accepted, with that seed and payload and the number of bytes
     pub legal : (file strand : List ℕ) → AllBytes file → PrintedStrand file strand
         → (s : ℕ) × (readCheck c weights strand ≡ droplet s (payloadFor c weights file s) 0)
         × ((read : List ℕ) → NearStrand c strand read
         → readCheck c weights read ≡ droplet s (payloadFor c weights file s) (bytesApart strand read))
-    -- every record in the store is a droplet of the file
+    -- a record of a clean read is a droplet of the file, whatever the other reads were, if every clean legal read is a strand of the file
+    pub clean-records : (file lent : List ℕ) (calls : List Call) → AllBytes file → Chained c weights lent 0 calls → CleanPrinted file (readsOf calls)
+        → All (λ r. r .clean ≡ true → payloadFor c weights file (r .seed) ≡ r .payload) (recordsOn (storeAfter lent calls))
+    -- then no clean read is refused for a payload that differs from the store's
+    pub clean-never-15 : (file lent : List ℕ) (calls : List Call) → AllBytes file → Chained c weights lent 0 calls → CleanPrinted file (readsOf calls)
+        → All (λ k. (s : ℕ) (p : List ℕ) → readCheck c weights (k .read) ≡ droplet s p 0 → k .answer ≡ reply.Refused 15 → ⊥) calls
+    -- and no read at all where each legal one is near to a strand of the file
+    pub never-15 : (file lent : List ℕ) (calls : List Call) → AllBytes file → Chained c weights lent 0 calls → LegalPrinted file (readsOf calls)
+        → All (λ k. k .answer ≡ reply.Refused 15 → ⊥) calls
+    -- every record in the store of a job is a droplet of the file
     pub store : (file lent : List ℕ) (calls : List Call) → Job file lent calls → GivesAll (c .l) file (dropletsOn (storeAfter lent calls))
-    -- no read is refused for a payload that differs from the store's
-    pub never-15 : (file lent : List ℕ) (calls : List Call) → Job file lent calls → All (λ k. k .answer ≡ reply.Refused 15 → ⊥) calls
     -- every sheet that is restored from the store is right
     pub back : (file lent : List ℕ) (calls : List Call) → Job file lent calls
         → (r : Sheet) (file′ marks′ : List ℕ) → SheetFrom (storeAfter lent calls) r file′ marks′ → RightSheet file r file′ marks′
@@ -161,15 +205,16 @@ module _ (c : Card) (weights : List ℕ) where
     pub original-back : (original file lent : List ℕ) (calls : List Call) → InterleavedFrom original file → Job file lent calls
         → (r : Sheet) (file′ marks′ : List ℕ) → SheetFrom (storeAfter lent calls) r file′ marks′ → r .present ≡ segmentCount c
         → OriginalBack original file′
-    -- more reads never hurt, where there is room for them
+    -- reads of more seeds never hurt, where there is room for them
     pub more-reads : (file lent lent′ : List ℕ) (calls calls′ : List Call) → Job file lent calls → Job file lent′ calls′
-        → RoomForAll lent′ calls′ → AllAmong (legalOf calls) (legalOf calls′) → NoBetter (storeAfter lent calls) (storeAfter lent′ calls′)
-    -- reads offered after others are more reads
+        → RoomForAll lent′ calls′ → AllAmong (legalSeeds calls) (legalSeeds calls′) → NoBetter (storeAfter lent calls) (storeAfter lent′ calls′)
+    -- reads offered after others are of more seeds
     pub further-reads : (calls calls′ : List Call) (more : List (List ℕ)) → readsOf calls′ ≡ readsOf calls ++ more
-        → AllAmong (legalOf calls) (legalOf calls′)
-    -- the order of the reads and their repeats never matter, where there is room
+        → AllAmong (legalSeeds calls) (legalSeeds calls′)
+    -- the order of the reads, their repeats and whether they were corrected never matter, where there is room
     pub any-order : (file lent lent′ : List ℕ) (calls calls′ : List Call) → Job file lent calls → Job file lent′ calls′
-        → RoomForAll lent calls → RoomForAll lent′ calls′ → AllAmong (legalOf calls) (legalOf calls′) → AllAmong (legalOf calls′) (legalOf calls)
+        → RoomForAll lent calls → RoomForAll lent′ calls′ → AllAmong (legalSeeds calls) (legalSeeds calls′)
+        → AllAmong (legalSeeds calls′) (legalSeeds calls)
         → SameMarks (storeAfter lent calls) (storeAfter lent′ calls′)
     -- over any two stores: more droplets never hurt
     pub more-droplets : (store store′ : LentStore) → AllAmong (dropletsOn store) (dropletsOn store′) → NoBetter store store′

@@ -2,18 +2,20 @@ ghost use mathlib.Core.Path.{_≡_};
 ghost use mathlib.Core.List.{_++_};
 ghost use Prim.Native.Nat.{_+_, _*_, _≤_};
 ghost use lib.ListN.{length, drop};
-ghost use Rattle.decoder.specs.Store.{recordBytes, recordText, recordPayload};
+ghost use Rattle.decoder.specs.Store.{stateByte, recordBytes, evidenceText, recordText, recordPayload, recordState, evidencePlace, overwritten};
 ghost use Rattle.decoder.specs.Loops.{recordAt};
-use strand::droplet_bytes::put_droplet;
+use field::bytes::copy;
+use field::bytes::copy_both;
+use field::bytes::split;
 
 // How wide a record is, and where its parts stand: the one place that knows. The seed comes first, as in a strand's word.
 
-// A record's bytes: seed and payload.
+// A record's bytes: seed, payload and state.
 pub fn record_bytes(l: usize) -> usize
     requires { ⌜ l ≤ 64 ⌝ }
     ensures { λ r. ⌜ r ≡ recordBytes l ⌝ }
 {
-    4 + l
+    5 + l
 }
 
 // Record `i` of the store.
@@ -36,10 +38,47 @@ pub fn payload_in(bytes: &[u8], l: usize) -> &[u8]
     &bytes[4..e]
 }
 
-// Writes a record at the start of a buffer.
-pub fn put_record(seed: u32, payload: &[u8], out: &mut [u8])
-    requires { ⌜ recordBytes (length (now payload)) ≤ length (now out) ⌝ }
-    ensures { λ _. ⌜ now (out .exit) ≡ recordText (record { seed = seed; payload = now (payload .entry) }) ++ drop (recordBytes (length (now (payload .entry)))) (now (out .entry)) ⌝ }
+// The state byte of the record with which some bytes start.
+pub fn state_in(bytes: &[u8], l: usize) -> u8
+    requires { ⌜ (l ≤ 64) × (recordBytes l ≤ length (now bytes)) ⌝ }
+    ensures { λ r. ⌜ r ≡ recordState l (now (bytes .entry)) ⌝ }
 {
-    put_droplet(seed, payload, out);
+    let i = 4 + l;
+    bytes[i]
+}
+
+// The state byte of a read.
+fn state_byte(clean: bool) -> u8
+    ensures { λ r. ⌜ r ≡ stateByte clean ⌝ }
+{
+    if clean {
+        return 0;
+    }
+    1
+}
+
+// Writes a record's payload and state at the start of a buffer.
+fn put_evidence(payload: &[u8], clean: bool, out: &mut [u8])
+    requires { ⌜ length (now payload) + 1 ≤ length (now out) ⌝ }
+    ensures { λ _. ⌜ now (out .exit) ≡ evidenceText (now (payload .entry)) clean ++ drop (length (now (payload .entry)) + 1) (now (out .entry)) ⌝ }
+{
+    copy_both(payload, &[state_byte(clean)], out);
+}
+
+// Writes a record at the start of a buffer.
+pub fn put_record(seed: u32, payload: &[u8], clean: bool, out: &mut [u8])
+    requires { ⌜ recordBytes (length (now payload)) ≤ length (now out) ⌝ }
+    ensures { λ _. ⌜ now (out .exit) ≡ recordText (record { seed = seed; payload = now (payload .entry); clean = clean }) ++ drop (recordBytes (length (now (payload .entry)))) (now (out .entry)) ⌝ }
+{
+    copy(&split(seed), &mut *out);
+    put_evidence(payload, clean, &mut out[4..]);
+}
+
+// Writes payload and state over those of the record that starts at a place. Its seed stays.
+pub fn replace_evidence(store: &mut [u8], at: usize, payload: &[u8], clean: bool)
+    requires { ⌜ at + recordBytes (length (now payload)) ≤ length (now store) ⌝ }
+    ensures { λ _. ⌜ now (store .exit) ≡ overwritten (evidencePlace at) (evidenceText (now (payload .entry)) clean) (now (store .entry)) ⌝ }
+{
+    let from = at + 4;
+    put_evidence(payload, clean, &mut store[from..]);
 }

@@ -3,11 +3,13 @@ ghost use Prim.Native.Nat.{_≤_};
 ghost use lib.ListN.{length};
 ghost use Rattle.strand.specs.ReadCheck.{lettersReading};
 ghost use Rattle.strand.specs.Loops.{InRange};
-ghost use Rattle.decoder.specs.Store.{countFits, appended, storeRecord, storeReading, StorePromise};
+ghost use Rattle.decoder.specs.Store.{readsClean, takesOver, countFits, appended, storeRecord, storeReading, StorePromise};
 ghost use Rattle.decoder.specs.StoreLoops.{Within, Sought, Keeps, refusalNumber};
 use crate::records::payload_in;
 use crate::records::put_record;
 use crate::records::record_bytes;
+use crate::records::replace_evidence;
+use crate::records::state_in;
 use droplet::card;
 use droplet::card::Card;
 use droplet::card::PlanAnswer;
@@ -20,6 +22,7 @@ use strand::read_check::ReadOutcome;
 pub enum StoreAnswer {
     Accepted(usize),
     Repeat(usize),
+    Replaced(usize),
     Refused(u8),
 }
 
@@ -66,9 +69,9 @@ fn find_seed(store: &[u8], l: usize, count: usize, seed: u32) -> Place
 }
 
 // Appends a record, if there is space for it: question 16.
-fn append(store: &mut [u8], count: usize, seed: u32, payload: &[u8]) -> StoreAnswer
+fn append(store: &mut [u8], count: usize, seed: u32, payload: &[u8], clean: bool) -> StoreAnswer
     requires { ⌜ Within (length (now payload)) count (now store) ⌝ }
-    ensures { λ r. ⌜ Keeps (appended (length (now (payload .entry))) (now (store .entry)) count (record { seed = seed; payload = now (payload .entry) })) r (now (store .exit)) ⌝ }
+    ensures { λ r. ⌜ Keeps (appended (length (now (payload .entry))) (now (store .entry)) count (record { seed = seed; payload = now (payload .entry); clean = clean })) r (now (store .exit)) ⌝ }
 {
     let width = record_bytes(payload.len());
     let at = count * width;
@@ -76,18 +79,38 @@ fn append(store: &mut [u8], count: usize, seed: u32, payload: &[u8]) -> StoreAns
         return StoreAnswer::Refused(16);
     }
     let end = at + width;
-    put_record(seed, payload, &mut store[at..end]);
+    put_record(seed, payload, clean, &mut store[at..end]);
     StoreAnswer::Accepted(count + 1)
 }
 
-// Takes a droplet in: question 15, of the first record of its seed, and where there is none question 16.
-fn store_droplet(store: &mut [u8], count: usize, seed: u32, payload: &[u8]) -> StoreAnswer
+// Whether a read takes over the record of its seed: a clean read, where the record's state byte is not that of a clean one.
+fn takes_over(clean: bool, state: u8) -> bool
+    ensures { λ r. ⌜ r ≡ takesOver clean (readsClean state) ⌝ }
+{
+    if clean {
+        return state != 0;
+    }
+    false
+}
+
+// Takes a droplet in: it takes over the first record of its seed, or question 15 compares them, and where there is none question 16.
+fn store_droplet(
+    store: &mut [u8],
+    count: usize,
+    seed: u32,
+    payload: &[u8],
+    clean: bool,
+) -> StoreAnswer
     requires { ⌜ Within (length (now payload)) count (now store) ⌝ }
-    ensures { λ r. ⌜ Keeps (storeRecord (length (now (payload .entry))) (now (store .entry)) count (record { seed = seed; payload = now (payload .entry) })) r (now (store .exit)) ⌝ }
+    ensures { λ r. ⌜ Keeps (storeRecord (length (now (payload .entry))) (now (store .entry)) count (record { seed = seed; payload = now (payload .entry); clean = clean })) r (now (store .exit)) ⌝ }
 {
     let Place::At(at) = find_seed(store, payload.len(), count, seed) else {
-        return append(store, count, seed, payload);
+        return append(store, count, seed, payload, clean);
     };
+    if takes_over(clean, state_in(&store[at..], payload.len())) {
+        replace_evidence(store, at, payload, clean);
+        return StoreAnswer::Replaced(count);
+    }
     if starts_with(payload_in(&store[at..], payload.len()), payload) {
         return StoreAnswer::Repeat(count);
     }
@@ -113,11 +136,12 @@ fn offer(card: Card, store: &mut [u8], count: usize, read: &[u8]) -> StoreAnswer
     let answer = read_check::check_strand(card, read);
     let outcome = answer.outcome;
     let payload = answer.payload;
+    let clean = answer.corrected == 0;
     let ReadOutcome::Droplet(seed) = outcome else {
         return StoreAnswer::Refused(refusal_of(outcome));
     };
     let l = card.l as usize;
-    store_droplet(store, count, seed, &payload[..l])
+    store_droplet(store, count, seed, &payload[..l], clean)
 }
 
 // Offers a read to the store: the questions 2 to 4, 27, 14, and then those of the read and its record. The next call is handed the

@@ -12,7 +12,7 @@ use Rattle.libc.specs.Io.{Moved}
 use Rattle.io.specs.Counts.{clamped}
 use Rattle.droplet.specs.declared.card.Card.{Card}
 use Rattle.decoder.specs.declared.store.StoreAnswer.{StoreAnswer}
-use Rattle.decoder.specs.Store.{Kept, kept, accepted, repeat, refusal, storeAnswer, keptAnswer, keptBuffer, storeRead, StorePromise}
+use Rattle.decoder.specs.Store.{Kept, kept, accepted, replaced, repeat, refusal, storeAnswer, keptAnswer, keptBuffer, storeRead, StorePromise}
 use Rattle.listing.specs.declared.tally.Tally.{Tally}
 use Rattle.listing.specs.declared.input.Turn.{Turn}
 use Rattle.listing.specs.Listing.{Listed, afterAnswer, afterLine}
@@ -28,6 +28,7 @@ kept-whole (kept b s) a store says leaves = rw (says, leaves)
 after-store : (s : Listed) (k : Kept) → afterAnswer s k .store ≡ keptBuffer k
 unfolding afterAnswer
 after-store s (kept (accepted n) b) = refl
+after-store s (kept (replaced n) b) = refl
 after-store s (kept (repeat n) b) = refl
 after-store s (kept (refusal q) b) = refl
 

@@ -14,8 +14,8 @@ use Rattle.strand.specs.Sites.{siteBefore, siteAfter}
 use Rattle.strand.specs.Screen.{orderOf, withBase, longestOf, longestRun, gcCount, measureOf, verdict, wordVerdict, screenPasses}
 use Rattle.correction.specs.Correction.{sumsZero, differs, distance, firstOf, within, corrected}
 use Rattle.strand.specs.ReadCheck.{strandReading, wordReading, lettersReading, readCheck}
-use Rattle.decoder.specs.Store.{recordBytes, recordText, recordPayload, recordFrom, records, findSeed, appended, compared, storeRecord, storeReading, storeRead}
-use Rattle.decoder.specs.BenchExamples.{cardP, weights, letters1, letters2, letters3}
+use Rattle.decoder.specs.Store.{recordBytes, evidenceText, recordText, recordPayload, recordState, recordFrom, records, findSeed, overwritten, appended, compared, storeRecord, storeReading, storeRead}
+use Rattle.decoder.specs.BenchExamples.{cardP, weights, letters1, letters2, letters3, oneByteWrong}
 use Rattle.listing.specs.Listing.{Listed, lastLine, linesFrom, linesOf, afterAnswer, afterLine, listing}
 
 pub data Row : Type 0 where
@@ -37,6 +37,7 @@ four = letters2 ++ (10 ∷ (letters1 ++ (10 ∷ (letters3 ++ (10 ∷ (letters1 +
 abbrev pub last : List ℕ
 last = 65 ∷ 65 ∷ 65 ∷ 78 ∷ []
 
+-- the last row: a mended read, then the strand itself, which replaces it (document 02, Item 5)
 abbrev pub rows : List Row
 rows =
     cuts [] []
@@ -47,8 +48,9 @@ rows =
     ∷ comes (four ++ last) (5 ∷ 3 ∷ 1 ∷ 1 ∷ 3 ∷ [])
     ∷ comes (10 ∷ []) (1 ∷ 0 ∷ 0 ∷ 1 ∷ 0 ∷ [])
     ∷ comes [] (0 ∷ 0 ∷ 0 ∷ 0 ∷ 0 ∷ [])
+    ∷ comes (oneByteWrong ++ (10 ∷ (letters1 ++ (10 ∷ [])))) (2 ∷ 1 ∷ 1 ∷ 0 ∷ 1 ∷ [])
     ∷ []
 
 pub examples : All Holds rows
-unfolding lastLine linesFrom afterAnswer afterLine listing toBigEndian fromBigEndian timesPower double shiftUp horner syndromes cardRefusal sizesRight limitsRight weightsRight widthRight segmentCount strandBytes firstWeights weightAt numberAt letterBits allLetters byteBases wordBases lettersByte lettersWord textLetters lettersBases siteBefore siteAfter orderOf withBase longestOf longestRun gcCount measureOf verdict wordVerdict screenPasses sumsZero differs distance firstOf within corrected strandReading wordReading lettersReading readCheck recordBytes recordText recordPayload recordFrom records sameBytes findSeed appended compared storeRecord storeReading storeRead
-examples = (refl, (refl, (refl, (refl, (refl, (refl, (refl, (refl, tt))))))))
+unfolding lastLine linesFrom afterAnswer afterLine listing toBigEndian fromBigEndian timesPower double shiftUp horner syndromes cardRefusal sizesRight limitsRight weightsRight widthRight segmentCount strandBytes firstWeights weightAt numberAt letterBits allLetters byteBases wordBases lettersByte lettersWord textLetters lettersBases siteBefore siteAfter orderOf withBase longestOf longestRun gcCount measureOf verdict wordVerdict screenPasses sumsZero differs distance firstOf within corrected strandReading wordReading lettersReading readCheck recordBytes evidenceText recordText recordPayload recordState recordFrom records sameBytes findSeed overwritten appended compared storeRecord storeReading storeRead
+examples = (refl, (refl, (refl, (refl, (refl, (refl, (refl, (refl, (refl, tt)))))))))

@@ -4,7 +4,7 @@ use mathlib.Core.List.{List, [], _∷_, _++_, foldl}
 use Prim.Native.Nat.{ℕ, suc}
 use lib.Dec.{eqb}
 use Rattle.droplet.specs.declared.card.Card.{Card}
-use Rattle.decoder.specs.Store.{Kept, kept, accepted, repeat, refusal, storeRead}
+use Rattle.decoder.specs.Store.{Kept, kept, accepted, replaced, repeat, refusal, storeRead}
 
 -- "reads from standard input, one a line": the lines of some bytes, of which `line` is the one in hand. A newline, byte 10, ends
 -- a line, and may end an empty one: "an empty line is a read of length 0"
@@ -33,13 +33,18 @@ pub record Listed : Type 0 where
 abbrev pub noneListed : List ℕ → Listed
 noneListed store = record { reads = 0; accepted = 0; repeated = 0; refused = 0; count = 0; store = store }
 
+-- a line of a seed that the store has: a repeat, and "the answer is "replaced", listed as repeated" (document 02, Item 5)
+abbrev pub listedAgain : Listed → ℕ → List ℕ → Listed
+listedAgain s n store =
+    record { reads = suc (s .reads); accepted = s .accepted; repeated = suc (s .repeated); refused = s .refused; count = n; store = store }
+
 -- "Every answer but a refusal carries the count after it, which the next call is handed; after a refusal the next call is handed
 -- the count from before"
 unfoldable pub afterAnswer : Listed → Kept → Listed
 afterAnswer s (kept (accepted n) store) =
     record { reads = suc (s .reads); accepted = suc (s .accepted); repeated = s .repeated; refused = s .refused; count = n; store = store }
-afterAnswer s (kept (repeat n) store) =
-    record { reads = suc (s .reads); accepted = s .accepted; repeated = suc (s .repeated); refused = s .refused; count = n; store = store }
+afterAnswer s (kept (replaced n) store) = listedAgain s n store
+afterAnswer s (kept (repeat n) store) = listedAgain s n store
 afterAnswer s (kept (refusal q) store) =
     record { reads = suc (s .reads); accepted = s .accepted; repeated = s .repeated; refused = suc (s .refused); count = s .count; store = store }
 

@@ -51,7 +51,7 @@ fn add_answer(t: Tally, a: StoreAnswer) -> Tally
             count,
             held: 0,
         },
-        StoreAnswer::Repeat(count) => Tally {
+        StoreAnswer::Repeat(count) | StoreAnswer::Replaced(count) => Tally {
             reads,
             accepted: t.accepted,
             repeated: one_more(t.repeated),

@@ -96,6 +96,19 @@ clean-accepted c weights seed p h =
       number = distance-same (lettersWord (wordLetters word));
     })
 
+-- a read that is accepted as it is, is the strand of its seed and payload
+pub clean-read : (c : Card) (weights read : List ℕ) (seed : ℕ) (p : List ℕ) → readCheck c weights read ≡ droplet seed p 0
+    → read ≡ wordLetters (strandWord c seed p)
+clean-read c weights read seed p clean =
+    let spelt = accepts-exactly c weights read seed p 0 .0 clean in
+    let word = strandWord c seed p in
+    let long = spelled-length (strandBytes c) (wordLetters word) (omega (arith, letters-length word, strand-length c seed p (spelt .strand .size))) in
+    let short = spelled-length (strandBytes c) read (omega (arith, spelt .near .bases)) in
+    let same : lettersWord (wordLetters word) ≡ lettersWord read =
+    distance-none (lettersWord (wordLetters word)) (lettersWord read) (long ∙ sym short) (omega (arith, spelt .number)) in
+    sym (read-back (strandBytes c) read (omega (arith, spelt .near .bases)) (spelt .near .letters))
+    ∙ ap wordLetters (sym same ∙ word-back word (strand-bytes c seed p (spelt .strand .bytes)))
+
 -- ---- legal strings
 
 legal-strand : (c : Card) (weights string : List ℕ) → IsLegal c weights string

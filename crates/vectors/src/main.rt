@@ -89,6 +89,7 @@ fn print_store(answer: StoreAnswer) {
     match answer {
         StoreAnswer::Accepted(n) => print_number(b"accepted, count ", n as u64),
         StoreAnswer::Repeat(n) => print_number(b"repeat, count ", n as u64),
+        StoreAnswer::Replaced(n) => print_number(b"replaced, count ", n as u64),
         StoreAnswer::Refused(n) => print_number(b"refused ", n as u64),
     }
     io::write_all(1, b"\n");

@@ -78,8 +78,14 @@ impl Numbers {
         4 * (4 + usize::from(self.l) + usize::from(self.r))
     }
 
-    pub fn record(&self) -> usize {
+    /// Seed and payload, as the read check's C form hands them out.
+    pub fn droplet(&self) -> usize {
         4 + usize::from(self.l)
+    }
+
+    /// Seed, payload and state, as they stand on a shelf.
+    pub fn record(&self) -> usize {
+        5 + usize::from(self.l)
     }
 
     /// The contents of the card's first three fields.

@@ -25,7 +25,7 @@ impl Case {
     pub fn any(random: &mut Random) -> Case {
         let mut numbers = cards::any_accepted(random);
         let read = reads::any_read(random, &mut numbers);
-        let length = random.length_for(numbers.record());
+        let length = random.length_for(numbers.droplet());
         if random.once_in(6) {
             cards::miss(random, &mut numbers);
             if random.once_in(8) {
@@ -49,7 +49,7 @@ impl Case {
     pub fn note(&self, regions: &mut Regions, answer: u32) {
         cards::note(regions, &self.numbers, answer);
         reads::note(regions, &self.numbers, &self.read, answer);
-        let (length, needed) = (self.out.len(), self.numbers.record());
+        let (length, needed) = (self.out.len(), self.numbers.droplet());
         regions.note_if(answer == 0 && length == needed, "out just long enough");
         regions.note_if(answer == 0 && length > needed, "out longer");
         regions.note_if(answer == 16 && length + 1 == needed, "16: a byte short");

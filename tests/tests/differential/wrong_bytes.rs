@@ -7,7 +7,8 @@ use super::random::Random;
 use super::reads::{gc, gc_fits, Read};
 use super::run::Regions;
 use second::check_bytes_letters_screen::{
-    check_sums, field_inverse, field_power, field_product, letters_of_bytes, polynomial_at,
+    check_bytes, check_sums, field_inverse, field_power, field_product, letters_of_bytes,
+    polynomial_at,
 };
 use second::mending::{differing_bytes, mend, Mended};
 
@@ -97,6 +98,23 @@ fn go_to_another(random: &mut Random, numbers: &Numbers, bytes: &mut [u8]) {
         let product = others.fold(1, |product, j| field_product(product, x[i] ^ x[j]));
         bytes[places[i]] ^= field_product(times, field_inverse(product));
     }
+}
+
+/// Misreads a strand in one byte more than can be mended, such that it is mended to another payload of its seed: two strands
+/// of one seed whose payloads differ in one byte differ in all R check bytes, too.
+pub fn misread_to_another_payload(random: &mut Random, numbers: &Numbers, read: &mut Read) {
+    let (l, r) = (usize::from(numbers.l), usize::from(numbers.r));
+    let mut other = read.printed[..4 + l].to_vec();
+    let place = 4 + random.below(l);
+    other[place] ^= any_wrong(random);
+    other.extend(check_bytes(&other, r));
+    let mut differing: Vec<usize> = (4 + l..4 + l + r).chain([place]).collect();
+    let mut bytes = read.printed.clone();
+    for _ in 0..r / 2 + 1 {
+        let wrong = differing.swap_remove(random.below(differing.len()));
+        bytes[wrong] = other[wrong];
+    }
+    read.letters = letters_of_bytes(&bytes);
 }
 
 /// As many bytes as there are sums, whose check sums are these: for each sum a polynomial that is 0 at all the other roots.
@@ -415,6 +433,16 @@ fn part_of(numbers: &Numbers, place: usize) -> &'static str {
         _ if place < 4 + usize::from(numbers.l) => "payload",
         _ => "check bytes",
     }
+}
+
+/// The part of a legal read that all its mended bytes stand in, if it was mended and there is one.
+pub fn part_mended(numbers: &Numbers, read: &Read) -> Option<&'static str> {
+    let bytes = read.bytes();
+    let mended = mend(&bytes, numbers.r).expect("a legal read");
+    let places = places_of(&bytes, &mended.word);
+    let part = part_of(numbers, *places.first()?);
+    let in_part = |&place: &usize| part_of(numbers, place) == part;
+    places.iter().all(in_part).then_some(part)
 }
 
 fn note_accepted(

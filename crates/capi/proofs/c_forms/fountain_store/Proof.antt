@@ -37,6 +37,13 @@ returns-3 c =
     let call = n .before .before .before .before in
     formed (call .before .before .handed-card .ensures) (call .store-read .ensures) _ _ _ (rw (n .after2 .given .1))
 
+returns-4 : tie.Need-returns-4
+unfolding storeReturned
+returns-4 c =
+    let n = c .before .before in
+    let call = n .before .before .before .before in
+    formed (call .before .before .handed-card .ensures) (call .store-read .ensures) _ _ _ (rw (n .after3 .given .1))
+
 pub fountain-store-spec : {M : Type 1} → statement M
 fountain-store-spec =
     tie.close
@@ -48,8 +55,11 @@ fountain-store-spec =
     (λ c. search needs)
     (λ c. search needs)
     (λ c. search needs)
+    (λ c. search needs)
     returns
     (λ c. search needs)
     returns-2
     (λ c. search needs)
-    returns-3)
+    returns-3
+    (λ c. search needs)
+    returns-4)

@@ -1,5 +1,6 @@
 -- `append` meets its contract: a record where there is space for one, and the refusal where there is none. Assumes nothing.
 use mathlib.Core.Path.{_≡_, ap, _∙_}
+use mathlib.Core.Bool.{Bool}
 use mathlib.Core.List.{List, [], _++_, append-nil}
 use Prim.Native.Nat.{ℕ, suc, _+_, _-_, _*_, _<_, _≤_}
 use native.Mathlib.Nat.{suc-mul, mul-le-mul-left}
@@ -9,19 +10,19 @@ use borrow.Author.Tests.{le-leb, lt-leb}
 use lib.ListN.{length, take, drop, length-take, drop-of-length-le}
 use lib.Seq.{drop-drop}
 use Rattle.decoder.specs.declared.store.StoreAnswer.the-variants.{Accepted, Refused}
-use Rattle.decoder.specs.Store.{Record, recordBytes, recordText, accepted, appended}
+use Rattle.decoder.specs.Store.{Record, recordBytes, recordText, accepted, overwritten, appended}
 use Rattle.decoder.specs.StoreLoops.{Keeps}
-use Rattle.decoder.proofs.RecordBytes.{parts-fit}
+use Rattle.decoder.proofs.RecordBytes.{parts-fit, text-size}
 use borrow.Author.Needs.{needs}
 use Rattle.decoder.proofs.store.append.Statement.{statement}
 use Rattle.decoder.proofs.store.append.Tie as tie
 
-module _ (buffer : List ℕ) (count seed : ℕ) (payload : List ℕ) (width : ℕ) (wide : width ≡ recordBytes (length payload)) where
+module _ (buffer : List ℕ) (count seed : ℕ) (payload : List ℕ) (clean : Bool) (width : ℕ) (wide : width ≡ recordBytes (length payload)) where
   abbrev at : ℕ
   at = count * width
 
   abbrev new : Record
-  new = record { seed = seed; payload = payload }
+  new = record { seed = seed; payload = payload; clean = clean }
 
   full : length buffer - at < width → Keeps (appended (length payload) buffer count new) (Refused 16) buffer
   unfolding appended
@@ -36,7 +37,7 @@ module _ (buffer : List ℕ) (count seed : ℕ) (payload : List ℕ) (width : �
   more : (part : List ℕ) → width ≤ length buffer - at
       → part ≡ recordText new ++ drop (recordBytes (length payload)) (take lent (drop at buffer))
       → Keeps (appended (length payload) buffer count new) (Accepted (count + 1)) (take at buffer ++ (part ++ drop lent (drop at buffer)))
-  unfolding appended
+  unfolding appended overwritten
   more part h e =
       let size : lent ≡ width = omega arith in
       let space : suc count * recordBytes (length payload) ≤ length buffer = rw (← wide, suc-mul) (omega (arith, wide, parts-fit (length payload))) in
@@ -45,14 +46,14 @@ module _ (buffer : List ℕ) (count seed : ℕ) (payload : List ℕ) (width : �
       let text : part ≡ recordText new = e ∙ rw (none, append-nil) in
       record {
         says = rw (le-leb _ _ space) (ap accepted (add-one count));
-        leaves = rw (le-leb _ _ space, text, size, drop-drop, ← wide, suc-mul);
+        leaves = rw (le-leb _ _ space, text, size, drop-drop, text-size new, ← wide);
       }
 
 returns : tie.Need-returns
 returns c =
     let w = c .before in
     let args = w .before .before .before .args in
-    full (args .store .now) (args .count) (args .seed) (args .payload .now) _ (w .record-bytes .ensures) (omega arith)
+    full (args .store .now) (args .count) (args .seed) (args .payload .now) (args .clean) _ (w .record-bytes .ensures) (omega arith)
 
 -- the records so far, by the one function
 fits : (c : tie.After-record-bytes)
@@ -68,21 +69,12 @@ sub-if1 c = let h = fits c in search needs
 add-end : tie.Need-add-end
 add-end c = let h = fits (c .before) in search needs
 
-part-put-record-start : tie.Need-part-put-record-start
-part-put-record-start c = let h = fits (c .before) in search needs
-
 part-put-record-end : tie.Need-part-put-record-end
 part-put-record-end c = let h = fits (c .before) in search needs
 
-put-record-requires : tie.Need-put-record-requires
-put-record-requires c κs =
-    let h = fits (c .before .before) in
-    let wide = c .before .before .record-bytes .ensures in
-    search needs
-
 -- there are no more records than bytes
-add-t9 : tie.Need-add-t9
-add-t9 c =
+add-t10 : tie.Need-add-t10
+add-t10 c =
     let w = c .before .before .before .before .before in
     let args = w .before .before .before .args in
     let h = fits w in
@@ -94,7 +86,8 @@ returns-2 : tie.Need-returns-2
 returns-2 c =
     let w = c .before .before .before .before .before in
     let args = w .before .before .before .args in
-    more (args .store .now) (args .count) (args .seed) (args .payload .now) _ (w .record-bytes .ensures) _ (omega arith) (c .before .before .put-record .ensures)
+    more (args .store .now) (args .count) (args .seed) (args .payload .now) (args .clean) _ (w .record-bytes .ensures) _ (omega arith)
+    (c .before .before .put-record .ensures)
 
 pub append-spec : {M : Type 1} → statement M
 append-spec =
@@ -106,9 +99,9 @@ append-spec =
     returns
     add-end
     (λ c. search needs)
-    part-put-record-start
+    (λ c. search needs)
     part-put-record-end
-    put-record-requires
-    add-t9
+    (λ c κs. search needs)
+    add-t10
     (λ c. search needs)
     returns-2)

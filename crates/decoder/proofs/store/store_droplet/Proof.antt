@@ -1,89 +1,136 @@
--- `store_droplet` meets its contract: the first record of the seed decides, and where there is none a record is appended. Assumes nothing.
-use mathlib.Core.Path.{_≡_, ap, _∙_}
+-- `store_droplet` meets its contract: the first record of the seed is taken over or compared, and where there is none a record is appended.
+-- Assumes nothing.
+use mathlib.Core.Path.{_≡_, refl, ap, _∙_}
 use mathlib.Core.Bool.{Bool, cond}
 use mathlib.Core.List.{List}
-use Prim.Native.Nat.{ℕ}
+use Prim.Native.Nat.{ℕ, _≤_}
 use native.Mathlib.Omega.{arith}
 use borrow.Author.Needs.{needs}
 use lib.ListN.{length, drop, length-drop}
 use lib.Seq.{take-all}
 use Rattle.field.specs.Bytes.{sameBytes}
-use Rattle.decoder.specs.declared.store.Place.the-variants.{At}
-use Rattle.decoder.specs.Store.{recordPayload, Found, found, absent, findSeed, records, kept, repeat, refusal, appended, compared, storeRecord}
-use Rattle.decoder.specs.StoreLoops.{Sought}
+use Rattle.decoder.specs.Store.{Record, readsClean, recordBytes, evidenceText, evidencePlace, recordPayload, recordState, recordFrom, records, absent, findSeed, Kept, kept, replaced, repeat, refusal, overwritten, appended, takesOver, compared, storeRecord}
+use Rattle.decoder.specs.StoreLoops.{Standing}
 use Rattle.decoder.proofs.BufferParts.{rest-whole}
 use Rattle.decoder.proofs.RecordBytes.{payload-size}
 use Rattle.decoder.proofs.store.store_droplet.Statement.{statement}
 use Rattle.decoder.proofs.store.store_droplet.Tie as tie
 
 -- what becomes of a droplet, by the first record of its seed
-module _ (L : ℕ) (buffer : List ℕ) (count seed : ℕ) (payload : List ℕ) where
-  abbrev first : Found
-  first = findSeed seed (records L count buffer)
-
-  new : first ≡ absent
-      → storeRecord L buffer count (record { seed = seed; payload = payload }) ≡ appended L buffer count (record { seed = seed; payload = payload })
+module _ (L : ℕ) (buffer : List ℕ) (count : ℕ) (r : Record) where
+  new : findSeed (r .seed) (records L count buffer) ≡ absent → storeRecord L buffer count r ≡ appended L buffer count r
   unfolding storeRecord compared
   new e = rw e
 
-  known : (p : List ℕ) (same : Bool) → first ≡ found p → same ≡ sameBytes p payload
-      → storeRecord L buffer count (record { seed = seed; payload = payload }) ≡ cond same (kept (repeat count) buffer) (kept (refusal 15) buffer)
-  unfolding storeRecord compared
-  known p same e f = rw (e, f)
+  -- the two tests of the record that starts at a place, and what they decide
+  abbrev same : ℕ → Bool
+  same at = sameBytes (recordPayload L (drop at buffer)) (r .payload)
+
+  abbrev decided : ℕ → Bool → Bool → Kept
+  decided at over same =
+      cond over (kept (replaced count) (overwritten (evidencePlace at) (evidenceText (r .payload) (r .clean)) buffer))
+      (cond same (kept (repeat count) buffer) (kept (refusal 15) buffer))
+
+  known : (at : ℕ) → Standing L count buffer (r .seed) at → (over : Bool)
+      → over ≡ takesOver (r .clean) (readsClean (recordState L (drop at buffer)))
+      → storeRecord L buffer count r ≡ decided at over (same at)
+  unfolding storeRecord compared recordFrom
+  known at here over e = rw (here .first, ← here .place, e)
+
+abbrev offered : tie.Start → Record
+offered s = record { seed = s .args .seed; payload = s .args .payload .now; clean = s .args .clean }
 
 -- where the search found a record
 there : (c : tie.After-known-told) → (let args = c .before .before .before .before .before .before .before .args in
-    Sought (length (args .payload .now)) (args .count) (args .store .now) (args .seed) (At (c .before .at .given .0 .0)))
+    Standing (length (args .payload .now)) (args .count) (args .store .now) (args .seed) (c .before .at .given .0 .0))
 there c = rw (c .before .at .given .1) at (c .before .before .before .find-seed .ensures)
 
 returns : tie.Need-returns
 returns c =
     let told = c .before .before .before .before in
-    let args = told .before .before .before .before .before .before .args in
+    let s = told .before .before .before .before .before .before in
     let none = rw (told .enum-told .given .1) at (told .before .before .find-seed .ensures) in
-    rw (new (length (args .payload .now)) (args .store .now) (args .count) (args .seed) (args .payload .now) none) (c .before .before .append .ensures)
+    rw (new (length (s .args .payload .now)) (s .args .store .now) (s .args .count) (offered s) none) (c .before .before .append .ensures)
 
-sub-payload-in : tie.Need-sub-payload-in
-sub-payload-in c = let within = there c .0 in search needs
+sub-state-in : tie.Need-sub-state-in
+sub-state-in c = let within = there c .within in search needs
 
-part-payload-in-start : tie.Need-part-payload-in-start
-part-payload-in-start c = let within = there (c .before) .0 in search needs
+part-state-in-start : tie.Need-part-state-in-start
+part-state-in-start c = let within = there (c .before) .within in search needs
 
-payload-in-requires : tie.Need-payload-in-requires
-payload-in-requires c κs =
-    let told = c .before .before in
-    let within = there told .0 in
-    rw rest-whole (told .before .before .before .before .before .before .before .pre .short, rw length-drop (omega arith))
+-- the part from the record on has room for a record
+room : (c : tie.After-known-told) → (let args = c .before .before .before .before .before .before .before .args in
+    let L = length (args .payload .now) in
+    (L ≤ 64) × (recordBytes L ≤ length (drop (c .before .at .given .0 .0) (args .store .now))))
+room c =
+    let within = there c .within in
+    (c .before .before .before .before .before .before .before .pre .short, rw length-drop (omega arith))
 
--- the payload of the record that was found
-stored : (c : tie.After-payload-in) → (let told = c .before .before .before in
-    let args = told .before .before .before .before .before .before .before .args in
-    c .payload-in .result .now ≡ recordPayload (length (args .payload .now)) (drop (told .before .at .given .0 .0) (args .store .now)))
-stored c = rw rest-whole at (c .payload-in .ensures)
+state-in-requires : tie.Need-state-in-requires
+state-in-requires c κs = rw rest-whole (room (c .before .before))
 
-stored-size : (c : tie.After-payload-in) → (let args = c .before .before .before .before .before .before .before .before .before .before .args in
-    length (c .payload-in .result .now) ≡ length (args .payload .now))
-stored-size c =
-    let within = there (c .before .before .before) .0 in
-    ap length (stored c) ∙ payload-size _ _ (rw length-drop (omega arith))
+replace-evidence-requires : tie.Need-replace-evidence-requires
+replace-evidence-requires c κs = there (c .before .before .before .before .before .before) .within
 
-starts-with-requires : tie.Need-starts-with-requires
-starts-with-requires c κs = omega (arith, stored-size c)
-
-said : (c : tie.After-starts-with) → (let args = c .before .before .before .before .before .before .before .before .before .before .before .args in
-    storeRecord (length (args .payload .now)) (args .store .now) (args .count) (record { seed = args .seed; payload = args .payload .now })
-    ≡ cond (c .starts-with .result) (kept (repeat (args .count)) (args .store .now)) (kept (refusal 15) (args .store .now)))
-said c =
-    let p = c .before in
-    let args = p .before .before .before .before .before .before .before .before .before .before .args in
-    let all = take-all (length (args .payload .now)) (p .payload-in .result .now) (omega (arith, stored-size p)) in
-    known _ _ _ _ _ _ _ (there (p .before .before .before) .1) (rw (all, stored p) at (c .starts-with .ensures))
+-- what the first test decides
+first : (c : tie.After-takes-over) → (let told = c .before .before .before .before in
+    let s = told .before .before .before .before .before .before .before in
+    let L = length (s .args .payload .now) in
+    let at = told .before .at .given .0 .0 in
+    storeRecord L (s .args .store .now) (s .args .count) (offered s)
+    ≡ decided L (s .args .store .now) (s .args .count) (offered s) at (c .takes-over .result)
+    (same L (s .args .store .now) (s .args .count) (offered s) at))
+first c =
+    let state = rw rest-whole at (c .before .state-in .ensures) in
+    known _ _ _ _ _ (there (c .before .before .before .before)) _ (rw state at (c .takes-over .ensures))
 
 returns-2 : tie.Need-returns-2
-returns-2 c = record { says = rw (said (c .before), c .if1 .taken); leaves = rw (said (c .before), c .if1 .taken) }
+returns-2 c =
+    let over = c .before .before in
+    let test = over .before .before in
+    rw (first (test .before), test .if1 .taken) (record { says = refl; leaves = over .replace-evidence .ensures })
+
+sub-payload-in : tie.Need-sub-payload-in
+sub-payload-in c = let within = there (c .before .before .before .before .before) .within in search needs
+
+part-payload-in-start : tie.Need-part-payload-in-start
+part-payload-in-start c = let within = there (c .before .before .before .before .before .before) .within in search needs
+
+payload-in-requires : tie.Need-payload-in-requires
+payload-in-requires c κs = rw rest-whole (room (c .before .before .before .before .before .before .before))
+
+-- the payload of the record
+stored : (c : tie.After-payload-in) → (let told = c .before .before .before .before .before .before .before .before in
+    let args = told .before .before .before .before .before .before .before .args in
+    let L = length (args .payload .now) in
+    let p = c .payload-in .result .now in
+    (p ≡ recordPayload L (drop (told .before .at .given .0 .0) (args .store .now))) × (length p ≡ L))
+stored c =
+    let told = c .before .before .before .before .before .before .before .before in
+    let e = rw rest-whole at (c .payload-in .ensures) in
+    (e, ap length e ∙ payload-size _ _ (room told .1))
+
+starts-with-requires : tie.Need-starts-with-requires
+starts-with-requires c κs = omega (arith, stored c .1)
+
+-- what the second test decides
+second : (c : tie.After-starts-with) → (let told = c .before .before .before .before .before .before .before .before .before in
+    let s = told .before .before .before .before .before .before .before in
+    storeRecord (length (s .args .payload .now)) (s .args .store .now) (s .args .count) (offered s)
+    ≡ cond (c .starts-with .result) (kept (repeat (s .args .count)) (s .args .store .now)) (kept (refusal 15) (s .args .store .now)))
+second c =
+    let p = c .before in
+    let test = p .before .before .before in
+    let s = test .before .before .before .before .before .before .before .before .before .before .before .before in
+    let all = take-all (length (s .args .payload .now)) (p .payload-in .result .now) (omega (arith, stored p .1)) in
+    let same = rw (all, stored p .0) at (c .starts-with .ensures) in
+    rw (first (test .before), test .if1 .left, same)
 
 returns-3 : tie.Need-returns-3
-returns-3 c = record { says = rw (said (c .before), c .if1 .left); leaves = rw (said (c .before), c .if1 .left) }
+returns-3 c = rw (second (c .before), c .if2 .taken) (record { says = refl; leaves = refl })
+
+returns-4 : tie.Need-returns-4
+returns-4 c = rw (second (c .before), c .if2 .left) (record { says = refl; leaves = refl })
 
 pub store-droplet-spec : {M : Type 1} → statement M
 store-droplet-spec =
@@ -95,12 +142,20 @@ store-droplet-spec =
     (λ c κs. search needs)
     (λ c. search needs)
     returns
+    sub-state-in
+    part-state-in-start
+    (λ c. search needs)
+    state-in-requires
+    (λ c κs. search needs)
+    replace-evidence-requires
+    (λ c. search needs)
+    returns-2
     sub-payload-in
     part-payload-in-start
     (λ c. search needs)
     payload-in-requires
     starts-with-requires
     (λ c. search needs)
-    returns-2
+    returns-3
     (λ c. search needs)
-    returns-3)
+    returns-4)
