@@ -55,7 +55,8 @@ extern "C" {
  *
  * D is the number of weights, K the number of segments (F divided by L, rounded up), n the strand length, 4 * (4 + L + R)
  * letters. A record is a seed (four bytes, most significant first), L payload bytes and a state byte: 5 + L bytes. The state is 0 if
- * the read of the record was clean, and 1 if it was mended; any other byte counts as mended. */
+ * the read of the record was clean, and 1 if it was mended; any other byte counts as mended. Records of before, 4 + L bytes without a
+ * state, cannot be told apart from these: do not hand them over. */
 
 /* Reads a pool card.
  *
@@ -243,7 +244,8 @@ uint32_t fountain_store(uint32_t F, uint8_t L, uint8_t R, uint8_t m, uint16_t lo
                         const uint8_t *read, size_t read_len,
                         uint64_t answer[2]);
 
-/* Restores what the records of a store give of a file. It looks at their seeds and payloads, and not at their states.
+/* Restores what the records of a store give of a file. It looks at their seeds and payloads, and not at their states. To restore from
+ * clean reads alone, hand over a store of the records whose state is 0, copied one behind the other, and their number.
  *
  *   F .. weights_len  as above
  *   store, store_len  the store, of which nothing is written

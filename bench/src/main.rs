@@ -453,115 +453,79 @@ fn run(job: &Job) -> Vec<Line> {
         rust,
     });
 
-    // restore
+    // restore: all records, of which false ones make false segments, and those of clean reads, which are as written here
+    let shelf = &shelf_a[..count * size];
+    let all = restores(job, &weights, &file, shelf, "records");
+    assert!(other > 0 || all.1 == 0, "the file did not come back");
+    let clean = restores(
+        job,
+        &weights,
+        &file,
+        &clean_records(shelf, size),
+        "records of clean reads",
+    );
+    assert_eq!(clean.1, 0, "a clean read is not as written");
+    lines.extend([all.0, clean.0]);
+    lines
+}
+
+/// A restore from some records, with the number of segments that came back and are not the file's.
+fn restores(job: &Job, weights: &[u8], file: &[u8], records: &[u8], of: &str) -> (Line, usize) {
+    let (card, l) = (job.card, job.card.l as usize);
+    let (k, count) = ((card.f as usize).div_ceil(l), records.len() / (5 + l));
+    let shelf = [records, &[0xEE; 5]].concat();
     let (mut file_a, mut file_b) = (vec![0xAA; k * l + 3], vec![0xAA; k * l + 3]);
     let (mut marks_a, mut marks_b) = (vec![7; k + 3], vec![7; k + 3]);
+    let (mut list_a, mut list_b) = (vec![0; 1024], vec![0; 1024]);
     let (mut a, mut b) = ([9; 3], [9; 3]);
     let (proved, rust) = race(
         job.rounds,
         || {
-            assert_eq!(
-                archive::restore(
-                    card,
-                    &weights,
-                    &shelf_a,
-                    count,
-                    &mut file_a,
-                    &mut marks_a,
-                    &mut list_a,
-                    &mut a
-                ),
-                0
-            )
-        },
-        || {
-            assert_eq!(
-                tuned::restore(
-                    card,
-                    &weights,
-                    &shelf_b,
-                    count,
-                    &mut file_b,
-                    &mut marks_b,
-                    &mut list_b,
-                    &mut b
-                ),
-                0
-            )
-        },
-    );
-    assert!(
-        a == b && file_a == file_b && marks_a == marks_b,
-        "the restored files differ"
-    );
-    let wrong = wrong_segments(l, &file, &file_a, &marks_a[..k]);
-    // false records make false segments; without any of them all segments that came back are the file's
-    assert!(other > 0 || wrong == 0, "the file did not come back");
-    lines.push(Line {
-        phase: "restore",
-        what: format!(
-            "{} of {k} segments of {count} records in {} sweeps, {} contradictions, {wrong} segments wrong",
-            a[0], a[1], a[2]
-        ),
-        proved,
-        rust,
-    });
-
-    // the records of clean reads, which are as written here, by themselves
-    let (mut clean, mut c) = (clean_records(&shelf_a[..count * size], size), [9; 3]);
-    let records = clean.len() / size;
-    clean.extend([0xEE; 5]);
-    let times = race(
-        job.rounds,
-        || {
             let (file, marks) = (&mut file_a, &mut marks_a);
-            assert_eq!(
-                archive::restore(
-                    card,
-                    &weights,
-                    &clean,
-                    records,
-                    file,
-                    marks,
-                    &mut list_a,
-                    &mut c
-                ),
-                0
-            )
+            let n = archive::restore(
+                card,
+                weights,
+                &shelf,
+                count,
+                file,
+                marks,
+                &mut list_a,
+                &mut a,
+            );
+            assert_eq!(n, 0)
         },
         || {
             let (file, marks) = (&mut file_b, &mut marks_b);
-            assert_eq!(
-                tuned::restore(
-                    card,
-                    &weights,
-                    &clean,
-                    records,
-                    file,
-                    marks,
-                    &mut list_b,
-                    &mut b
-                ),
-                0
-            )
+            let n = tuned::restore(
+                card,
+                weights,
+                &shelf,
+                count,
+                file,
+                marks,
+                &mut list_b,
+                &mut b,
+            );
+            assert_eq!(n, 0)
         },
     );
-    assert!(
-        c == b && file_a == file_b && marks_a == marks_b,
-        "the restored files differ"
+    let same = a == b && file_a == file_b && marks_a == marks_b;
+    assert!(same, "the restored files differ");
+    let wrong = wrong_segments(l, file, &file_a, &marks_a[..k]);
+    let what = format!(
+        "{} of {k} segments of {count} {of} in {} sweeps, {} contradictions, {wrong} segments wrong",
+        a[0], a[1], a[2]
     );
-    let wrong = wrong_segments(l, &file, &file_a, &marks_a[..k]);
-    assert_eq!((c[2], wrong), (0, 0), "a clean read is not as written");
-    lines.push(Line {
-        phase: "restore",
-        what: format!(
-            "{} of {k} segments of the {records} records of clean reads in {} sweeps, {} contradictions, {wrong} segments wrong",
-            c[0], c[1], c[2]
-        ),
-        proved: times.0,
-        rust: times.1,
-    });
-    lines
+    let phase = "restore";
+    (
+        Line {
+            phase,
+            what,
+            proved,
+            rust,
+        },
+        wrong,
+    )
 }
 
 /// How many segments that came back are not the file's.

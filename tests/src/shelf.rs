@@ -77,7 +77,7 @@ pub fn shelve(
     match place {
         Some(place) if takes_over => {
             let record = &mut shelf[place * record_bytes..(place + 1) * record_bytes];
-            take_over(record, payload, state);
+            write_payload_and_state(record, payload, state);
             Ok(Shelved::Replaced { count })
         }
         Some(_) => Ok(Shelved::Repeat { count }),
@@ -85,14 +85,14 @@ pub fn shelve(
             ask(question_16_shelf(count, record_bytes, shelf.len()), 16)?;
             let record = &mut shelf[count * record_bytes..(count + 1) * record_bytes];
             record[..4].copy_from_slice(&droplet.seed.to_be_bytes());
-            take_over(record, payload, state);
+            write_payload_and_state(record, payload, state);
             Ok(Shelved::Accepted { count: count + 1 })
         }
     }
 }
 
-/// "takes over payload and state": a record's bytes behind its seed become these.
-fn take_over(record: &mut [u8], payload: &[u8], state: State) {
+/// A record's bytes behind its seed become these.
+fn write_payload_and_state(record: &mut [u8], payload: &[u8], state: State) {
     let (state_byte, seed_and_payload) = record
         .split_last_mut()
         .expect("a record has 5 bytes and more");

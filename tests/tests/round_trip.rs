@@ -310,6 +310,32 @@ fn clean_reads_put_a_file_right() {
     }
 }
 
+/// Most strands are read clean, and some come as wrongly mended reads alone. With their
+/// records the file comes back wrong; the records of state 0, copied out, give it whole.
+#[test]
+fn clean_records_alone() {
+    for r in [2, 4] {
+        let job = Job::of(r);
+        let handed = job.handed();
+        let (mut shelf, mut state) = (vec![0xEE; 300 * 25], 9);
+        for (count, strand) in job.printed().iter().enumerate() {
+            let read = match count % 15 {
+                0 => job.wrongly_mended(strand, &mut state),
+                _ => letters_of_bytes(strand),
+            };
+            let accepted = Ok(Shelved::Accepted { count: count + 1 });
+            assert_eq!(shelve(&handed, &read, &mut shelf, count), accepted);
+        }
+        let (file, agrees) = job.restored(&shelf, 300);
+        assert!(file != job.file && !agrees);
+
+        let records = shelf.chunks_exact(25).filter(|record| record[24] == 0);
+        let clean: Vec<u8> = records.flatten().copied().collect();
+        assert_eq!(clean.len(), 280 * 25);
+        assert_eq!(job.restored(&clean, 280), (job.file.clone(), true));
+    }
+}
+
 /// Clean, mended and wrongly mended reads of all strands in mixed order: what stands on
 /// the shelf at the end is what demand 3 says of the list, and as each strand has a clean
 /// read, the file is right.

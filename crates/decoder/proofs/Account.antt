@@ -20,7 +20,7 @@ use Rattle.decoder.proofs.AllOf.{all-before, all-after}
 use Rattle.decoder.proofs.SeedSearch.{Spot}
 use Rattle.decoder.proofs.SeedLists.{seeds-join, not-same, turned, in-neither, not-first, there, front-has, later-has, once-more, once-after}
 use Rattle.decoder.proofs.BestReads.{merged, merged-seed, BestIn, best-other, best-new, best-again}
-use Rattle.decoder.proofs.Moves.{Added, Full, Move, added, full, met, Step}
+use Rattle.decoder.proofs.StoreSteps.{Added, Full, Move, added, full, met, Step}
 
 -- ---- records that are the best of some reads
 
@@ -137,6 +137,10 @@ module _ (room : ℕ) (seen : List ℕ) (legal taken : List Record) (rs : List R
       })
 
   module _ (i : ℕ) (q : Record) (spot : Spot s rs i q) where
+    -- the records with the one of the seed as it becomes
+    abbrev mergedIn : List Record
+    mergedIn = spot .before ++ (merged r q ∷ spot .after)
+
     seeds-with : (x : Record) → x .seed ≡ s → seedsOf (spot .before ++ (x ∷ spot .after)) ≡ seedsOf (spot .before) ++ (s ∷ seedsOf (spot .after))
     seeds-with x e = seeds-join (spot .before) (x ∷ spot .after) ∙ ap (λ (t : ℕ). seedsOf (spot .before) ++ (t ∷ seedsOf (spot .after))) e
 
@@ -150,15 +154,15 @@ module _ (room : ℕ) (seen : List ℕ) (legal taken : List Record) (rs : List R
     last = once-after s (seedsOf (spot .before)) (seedsOf (spot .after)) (subst Distinct seeds-parts (h .once))
 
     -- the reads taken with r, or without it where the record stays as it is
-    met-account : (taken′ : List Record) → All (BestIn taken′) (spot .before ++ (merged r q ∷ spot .after))
+    met-account : (taken′ : List Record) → All (BestIn taken′) mergedIn
         → ((t : ℕ) → eqb s t ≡ false → bestOf t taken′ ≡ bestOf t taken)
-        → Account room (seenWith seen r) (legal ++ (r ∷ [])) taken′ (spot .before ++ (merged r q ∷ spot .after))
+        → Account room (seenWith seen r) (legal ++ (r ∷ [])) taken′ mergedIn
     met-account taken′ covers other =
-        let same : seedsOf (spot .before ++ (merged r q ∷ spot .after)) ≡ seedsOf rs
+        let same : seedsOf mergedIn ≡ seedsOf rs
         = seeds-with (merged r q) (merged-seed r q (better r q) (spot .seed)) ∙ sym seeds-parts in
-        let number : length (spot .before ++ (merged r q ∷ spot .after)) ≡ length rs
-        = sym (length-map (spot .before ++ (merged r q ∷ spot .after)) (λ (x : Record). x .seed)) ∙ ap length same ∙ length-map rs (λ (x : Record). x .seed) in
-        let away : (t : ℕ) → member t (seedsOf (spot .before ++ (merged r q ∷ spot .after))) ≡ false → member t (seedsOf rs) ≡ false
+        let number : length mergedIn ≡ length rs
+        = sym (length-map mergedIn (λ (x : Record). x .seed)) ∙ ap length same ∙ length-map rs (λ (x : Record). x .seed) in
+        let away : (t : ℕ) → member t (seedsOf mergedIn) ≡ false → member t (seedsOf rs) ≡ false
         = λ t f. ap (member t) (sym same) ∙ f in
         record {
           order = same ∙ h .order ∙ ap (take room) (sym (seen-here here));
@@ -170,10 +174,10 @@ module _ (room : ℕ) (seen : List ℕ) (legal taken : List Record) (rs : List R
               best-other t legal r (not-same s t (seedsOf rs) here (away t f)) ∙ h .unseen t (away t f) (omega (arith, number));
         }
 
-    with-read : Account room (seenWith seen r) (legal ++ (r ∷ [])) (taken ++ (r ∷ [])) (spot .before ++ (merged r q ∷ spot .after))
+    with-read : Account room (seenWith seen r) (legal ++ (r ∷ [])) (taken ++ (r ∷ [])) mergedIn
     with-read = met-account (taken ++ (r ∷ [])) (covers-met taken r rs i q spot last (h .each)) (λ t e. best-other t taken r e)
 
-    without : better r q ≡ false → Account room (seenWith seen r) (legal ++ (r ∷ [])) taken (spot .before ++ (merged r q ∷ spot .after))
+    without : better r q ≡ false → Account room (seenWith seen r) (legal ++ (r ∷ [])) taken mergedIn
     without b = met-account taken (rw b (subst (All (BestIn taken)) (spot .parts) (h .each))) (λ t e. refl)
 
   move-account : (a : Stored) (rs′ : List Record) → Move room rs r a rs′

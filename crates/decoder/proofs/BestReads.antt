@@ -13,7 +13,7 @@ use Rattle.field.proofs.ByteLists.{all-append}
 use Rattle.decoder.specs.Store.{Record, takesOver, better}
 use Rattle.decoder.specs.Demand3.{seedsOf, those, cleanOf, correctedOf, bestOf, bestOfEach}
 use Rattle.decoder.specs.Vault.{Among}
-use Rattle.decoder.proofs.AllOf.{all-front}
+use Rattle.decoder.proofs.AllOf.{all-map, all-front}
 
 -- what becomes of the record q of a seed when a read r of it comes
 abbrev pub merged : Record → Record → Record
@@ -98,18 +98,11 @@ again (x ∷ C) M r q m w c d h e =
 
 module _ (s : ℕ) (os : List Record) where
   cleans : All (λ x. x .clean ≡ true) (those (cleanOf s) os)
-  cleans = pass (those (cleanOf s) os) (those-pass (cleanOf s) os)
-    where
-      pass : (l : List Record) → All (λ x. cleanOf s x ≡ true) l → All (λ x. x .clean ≡ true) l
-      pass [] h = tt
-      pass (x ∷ l) h = (both-right (eqb (x .seed) s) (x .clean) (h .0), pass l (h .1))
+  cleans = all-map _ _ (λ x h. both-right (eqb (x .seed) s) (x .clean) h) (those (cleanOf s) os) (those-pass (cleanOf s) os)
 
   correcteds : All (λ x. x .clean ≡ false) (those (correctedOf s) os)
-  correcteds = pass (those (correctedOf s) os) (those-pass (correctedOf s) os)
-    where
-      pass : (l : List Record) → All (λ x. correctedOf s x ≡ true) l → All (λ x. x .clean ≡ false) l
-      pass [] h = tt
-      pass (x ∷ l) h = (not-clean (x .clean) (both-right (eqb (x .seed) s) (not (x .clean)) (h .0)), pass l (h .1))
+  correcteds =
+      all-map _ _ (λ x h. not-clean (x .clean) (both-right (eqb (x .seed) s) (not (x .clean)) h)) (those (correctedOf s) os) (those-pass (correctedOf s) os)
 
   -- ---- one read more
 

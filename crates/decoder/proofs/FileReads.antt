@@ -20,10 +20,10 @@ use Rattle.strand.proofs.NearReads.{clean-read}
 use Rattle.decoder.specs.Store.{Record, dropletRecord}
 use Rattle.decoder.specs.Restorer.{droplets}
 use Rattle.decoder.specs.Demand3.{firstSeeds, storedSeeds, seedsOf, Call, readsOf, Chained, GivesAll}
-use Rattle.decoder.specs.Vault.{Among, AllAmong, storeAfter, recordsOn, dropletsOn, legalOf, legalSeeds, RoomForAll, PrintedStrand, MisreadStrand, LegalPrinted, SeedPrinted, CleanPrinted, CleanOffered, Job}
+use Rattle.decoder.specs.Vault.{Among, AllAmong, LentStore, storeAfter, recordsOn, dropletsOn, legalOf, legalSeeds, RoomForAll, PrintedStrand, MisreadStrand, LegalPrinted, SeedPrinted, CleanPrinted, CleanOffered, Job}
 use Rattle.decoder.proofs.AllOf.{all-map, all-mapped, all-among, among-all, among-mapped}
 use Rattle.decoder.proofs.LegalRead.{InReading}
-use Rattle.decoder.proofs.LegalReads.{legal-all, legal-there, with-seed, first-has}
+use Rattle.decoder.proofs.OfferedReads.{legal-all, legal-there, with-seed, first-has}
 use Rattle.decoder.proofs.BestReads.{best-all, best-clean}
 use Rattle.decoder.proofs.StoreCall.{room, fitted}
 use Rattle.decoder.proofs.StoreChain.{left-order, left-best}
@@ -99,38 +99,48 @@ module _ (c : Card) (ws : List ℕ) where
 
 -- ---- the store
 
+-- the records that calls leave
+abbrev left : Card → List ℕ → List ℕ → List Call → List Record
+left c ws lent calls = recordsOn c ws (storeAfter lent calls)
+
 module _ (c : Card) (ws : List ℕ) (fine : cardRefusal c ws ≡ 0) where
   module _ (lent : List ℕ) (calls : List Call) (chained : Chained c ws lent 0 calls) where
     abbrev reads : List (List ℕ)
     reads = readsOf calls
 
-    abbrev left : List Record
-    left = recordsOn c ws (storeAfter lent calls)
-
     -- what holds of all legal reads holds of each record
-    left-all : (P : Record → Type 0) → All P (legalOf c ws calls) → (r : Record) → Among r left → P r
-    left-all P h r a = best-all (r .seed) (legalOf c ws calls) P r h (all-among _ left (left-best c ws fine lent calls chained) r a)
+    left-all : (P : Record → Type 0) → All P (legalOf c ws calls) → (r : Record) → Among r (left c ws lent calls) → P r
+    left-all P h r a = best-all (r .seed) (legalOf c ws calls) P r h (all-among _ (left c ws lent calls) (left-best c ws fine lent calls chained) r a)
 
     -- of a seed with a clean read the record is clean
-    offered-clean : (r : Record) → Among r left → CleanOffered c ws reads (r .seed) → r .clean ≡ true
+    offered-clean : (r : Record) → Among r (left c ws lent calls) → CleanOffered c ws reads (r .seed) → r .clean ≡ true
     offered-clean r a k =
         best-clean (r .seed) (legalOf c ws calls) r (dropletRecord (r .seed) (k .payload) 0)
         (legal-there c ws reads (k .read) (r .seed) (k .payload) 0 (k .among) (k .clean)) (rw (eq-eqb (r .seed) (r .seed) refl))
-        (all-among _ left (left-best c ws fine lent calls chained) r a)
+        (all-among _ (left c ws lent calls) (left-best c ws fine lent calls chained) r a)
 
     module _ (file : List ℕ) (bytes : AllBytes file) where
-      clean-ours : CleanPrinted c ws file reads → (r : Record) → Among r left → CleanOfFile c ws file r
+      clean-ours : CleanPrinted c ws file reads → (r : Record) → Among r (left c ws lent calls) → CleanOfFile c ws file r
       clean-ours printed = left-all (CleanOfFile c ws file) (legal-all c ws (CleanOfFile c ws file) reads (clean-readings c ws file bytes reads printed))
 
-      seed-ours : (r : Record) → Among r left → SeedPrinted c ws file reads (r .seed) → OfFile c ws file r
+      seed-ours : (r : Record) → Among r (left c ws lent calls) → SeedPrinted c ws file reads (r .seed) → OfFile c ws file r
       seed-ours r a near =
           left-all (λ x. x .seed ≡ r .seed → OfFile c ws file x)
           (legal-all c ws (λ x. x .seed ≡ r .seed → OfFile c ws file x) reads (seed-readings c ws file bytes (r .seed) reads near)) r a refl
 
   pub clean-records : (file lent : List ℕ) (calls : List Call) → AllBytes file → Chained c ws lent 0 calls → CleanPrinted c ws file (readsOf calls)
-      → All (CleanOfFile c ws file) (recordsOn c ws (storeAfter lent calls))
+      → All (CleanOfFile c ws file) (left c ws lent calls)
   clean-records file lent calls bytes chained printed =
-      among-all (CleanOfFile c ws file) (recordsOn c ws (storeAfter lent calls)) (clean-ours lent calls chained file bytes printed)
+      among-all (CleanOfFile c ws file) (left c ws lent calls) (clean-ours lent calls chained file bytes printed)
+
+  -- a store of such records alone
+  pub clean-gives : (file lent : List ℕ) (calls : List Call) (store : LentStore) → AllBytes file → Chained c ws lent 0 calls
+      → CleanPrinted c ws file (readsOf calls) → All (λ r. (r .clean ≡ true) × Among r (left c ws lent calls)) (recordsOn c ws store)
+      → GivesAll (c .l) file (dropletsOn c ws store)
+  unfolding GivesAll droplets
+  clean-gives file lent calls store bytes chained printed own =
+      all-mapped (λ d. payload (c .l) file (d .segments) ≡ d .payload) _ (recordsOn c ws store)
+      (all-map _ (OfFile c ws file) (λ r h. clean-ours lent calls chained file bytes printed r (h .1) (h .0)) (recordsOn c ws store) own)
 
   -- ---- jobs
 
@@ -142,50 +152,49 @@ module _ (c : Card) (ws : List ℕ) (fine : cardRefusal c ws ≡ 0) where
           bytes = bytes;
           chained = chained;
           clean = all-map _ _ (λ read h s p e. near-clean c ws file bytes read s p e (h s p 0 e)) (readsOf calls) near;
-          seeds = among-all _ (recordsOn c ws (storeAfter lent calls)) (λ r a. inr (all-map _ _ (λ read h p k e. h (r .seed) p k e) (readsOf calls) near));
+          seeds = among-all _ (left c ws lent calls) (λ r a. inr (all-map _ _ (λ read h p k e. h (r .seed) p k e) (readsOf calls) near));
         }
 
     pub clean-jobs : CleanPrinted c ws file (readsOf calls)
-        → All (λ r. CleanOffered c ws (readsOf calls) (r .seed) ⊎ SeedPrinted c ws file (readsOf calls) (r .seed)) (recordsOn c ws (storeAfter lent calls))
+        → All (λ r. CleanOffered c ws (readsOf calls) (r .seed) ⊎ SeedPrinted c ws file (readsOf calls) (r .seed)) (left c ws lent calls)
         → Job c ws file lent calls
     clean-jobs printed offered =
-        let left = recordsOn c ws (storeAfter lent calls) in
         record {
           size = size;
           bytes = bytes;
           chained = chained;
           clean = printed;
-          seeds = among-all _ left (λ r a. ⊎-elim (λ k. inl (offered-clean lent calls chained r a k)) (λ near. inr near) (all-among _ left offered r a));
+          seeds = among-all _ (left c ws lent calls) (λ r a. ⊎-elim (λ k. inl (offered-clean lent calls chained r a k)) (λ near. inr near) (all-among _ (left c ws lent calls) offered r a));
         }
 
   module _ (file lent : List ℕ) (calls : List Call) (job : Job c ws file lent calls) where
-    record-ours : (r : Record) → Among r (recordsOn c ws (storeAfter lent calls)) → OfFile c ws file r
+    record-ours : (r : Record) → Among r (left c ws lent calls) → OfFile c ws file r
     record-ours r a =
         ⊎-elim (λ clean. clean-ours lent calls (job .chained) file (job .bytes) (job .clean) r a clean)
-        (λ near. seed-ours lent calls (job .chained) file (job .bytes) r a near) (all-among _ (recordsOn c ws (storeAfter lent calls)) (job .seeds) r a)
+        (λ near. seed-ours lent calls (job .chained) file (job .bytes) r a near) (all-among _ (left c ws lent calls) (job .seeds) r a)
 
     pub store-ours : GivesAll (c .l) file (dropletsOn c ws (storeAfter lent calls))
     unfolding GivesAll droplets
     store-ours =
-        all-mapped (λ d. payload (c .l) file (d .segments) ≡ d .payload) _ (recordsOn c ws (storeAfter lent calls))
-        (among-all (OfFile c ws file) (recordsOn c ws (storeAfter lent calls)) record-ours)
+        all-mapped (λ d. payload (c .l) file (d .segments) ≡ d .payload) _ (left c ws lent calls)
+        (among-all (OfFile c ws file) (left c ws lent calls) record-ours)
 
   -- ---- two lists of calls
 
   module _ (file lent lent′ : List ℕ) (calls calls′ : List Call) (job : Job c ws file lent calls) (job′ : Job c ws file lent′ calls′)
       (fits : RoomForAll c ws lent′ calls′) (among : AllAmong (legalSeeds c ws calls) (legalSeeds c ws calls′)) where
     -- with room for all, each seed of the legal reads is in the store
-    seeds-whole : seedsOf (recordsOn c ws (storeAfter lent′ calls′)) ≡ firstSeeds [] (legalOf c ws calls′)
+    seeds-whole : seedsOf (left c ws lent′ calls′) ≡ firstSeeds [] (legalOf c ws calls′)
     unfolding storedSeeds
     seeds-whole =
         let first = firstSeeds [] (legalOf c ws calls′) in
         left-order c ws fine lent′ calls′ (job′ .chained) ∙ take-all (room (c .l) lent′) first (fitted (c .l) lent′ (length first) (omega (arith, fits)))
 
-    same-seed : (x : Record) → Among x (recordsOn c ws (storeAfter lent calls)) → (y : Record) × Among y (recordsOn c ws (storeAfter lent′ calls′)) × (y .seed ≡ x .seed)
+    same-seed : (x : Record) → Among x (left c ws lent calls) → (y : Record) × Among y (left c ws lent′ calls′) × (y .seed ≡ x .seed)
     same-seed x a =
         let here : Among (x .seed) (legalSeeds c ws calls)
         = left-all lent calls (job .chained) (λ y. Among (y .seed) (legalSeeds c ws calls)) (seeds-there (legalOf c ws calls)) x a in
-        with-seed (x .seed) (recordsOn c ws (storeAfter lent′ calls′))
+        with-seed (x .seed) (left c ws lent′ calls′)
         (ap (member (x .seed)) seeds-whole ∙ first-has (x .seed) [] (legalOf c ws calls′) (among (x .seed) here))
       where
         seeds-there : (rs : List Record) → All (λ y. Among (y .seed) (seedsOf rs)) rs
@@ -195,7 +204,7 @@ module _ (c : Card) (ws : List ℕ) (fine : cardRefusal c ws ≡ 0) where
     pub droplets-among : AllAmong (dropletsOn c ws (storeAfter lent calls)) (dropletsOn c ws (storeAfter lent′ calls′))
     unfolding droplets
     droplets-among =
-        among-mapped _ (recordsOn c ws (storeAfter lent calls)) (recordsOn c ws (storeAfter lent′ calls′))
+        among-mapped _ (left c ws lent calls) (left c ws lent′ calls′)
         (λ x a.
         let there = same-seed x a in
         let y = there .0 in

@@ -5,8 +5,8 @@ use Rattle.droplet.proofs.CardAnswers.{reading-accepted}
 use Rattle.decoder.specs.Vault.{storeAfter, FromFileToVault}
 use Rattle.decoder.proofs.StoreChain.{chain-exists}
 use Rattle.decoder.proofs.PrintedReads.{printed-legal}
-use Rattle.decoder.proofs.LegalReads.{further-reads}
-use Rattle.decoder.proofs.FileReads.{clean-records, jobs, clean-jobs, store-ours, droplets-among}
+use Rattle.decoder.proofs.OfferedReads.{further-reads}
+use Rattle.decoder.proofs.FileReads.{clean-records, clean-gives, jobs, clean-jobs, store-ours, droplets-among}
 use Rattle.decoder.proofs.NeverRefused15.{clean-never-15, never-15}
 use Rattle.decoder.proofs.CustomersFile.{interleaves, interleaved, original-back}
 use Rattle.decoder.proofs.RightSheets.{right-sheet, more-droplets, same-droplets}
@@ -23,6 +23,8 @@ from-file-to-vault card c D e =
       clean-jobs = clean-jobs c weights fine;
       legal = λ file strand bytes. printed-legal c weights file bytes strand;
       clean-records = clean-records c weights fine;
+      clean-back = λ file lent calls store size bytes chained printed own.
+          right-sheet c weights fine file store size (clean-gives c weights fine file lent calls store bytes chained printed own);
       clean-never-15 = clean-never-15 c weights fine;
       never-15 = never-15 c weights fine;
       store = store-ours c weights fine;

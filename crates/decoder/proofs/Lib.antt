@@ -22,7 +22,7 @@ pub mod RecordBytes
 pub mod SeedSearch
 pub mod SeedLists
 pub mod BestReads
-pub mod Moves
+pub mod StoreSteps
 pub mod LegalRead
 pub mod StoreCall
 pub mod Account
@@ -31,7 +31,7 @@ pub mod StoreDroplets
 pub mod SoundRestore
 pub mod DemandThree
 pub mod PrintedReads
-pub mod LegalReads
+pub mod OfferedReads
 pub mod FileReads
 pub mod NeverRefused15
 pub mod RightSheets

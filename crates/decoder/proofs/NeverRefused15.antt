@@ -28,7 +28,7 @@ use Rattle.decoder.proofs.AllOf.{all-map, all-before, all-after}
 use Rattle.decoder.proofs.SeedSearch.{Spot}
 use Rattle.decoder.proofs.LegalRead.{InReading}
 use Rattle.decoder.proofs.BestReads.{merged}
-use Rattle.decoder.proofs.Moves.{Move, added, full, met, Step}
+use Rattle.decoder.proofs.StoreSteps.{Move, added, full, met, Step}
 use Rattle.decoder.proofs.StoreCall.{room, Stocked}
 use Rattle.decoder.proofs.StoreChain.{call-steps, empty-stocked}
 use Rattle.decoder.proofs.FileReads.{OfFile, CleanOfFile, clean-readings, near-readings}
@@ -74,8 +74,8 @@ module _ (P C : Record → Type 0)
   merged-has true r q p h = p
   merged-has false r q p h = h
 
-  same-payload : (q r : Record) → sameBytes (q .payload) (r .payload) ≡ false → q .payload ≡ r .payload → ⊥
-  same-payload q r t e = true≢false (sym (eq-same (r .payload)) ∙ ap (λ (l : List ℕ). sameBytes l (r .payload)) (sym e) ∙ t)
+  not-same-bytes : (q r : Record) → sameBytes (q .payload) (r .payload) ≡ false → q .payload ≡ r .payload → ⊥
+  not-same-bytes q r t e = true≢false (sym (eq-same (r .payload)) ∙ ap (λ (l : List ℕ). sameBytes l (r .payload)) (sym e) ∙ t)
 
   module _ (space : ℕ) (rs : List Record) (h : All P rs) (r : Record) (a : Stored) (rs′ : List Record) (p : P r) where
     found-has : (i : ℕ) (q : Record) (spot : Spot (r .seed) rs i q) → All P (q ∷ spot .after)
@@ -102,7 +102,7 @@ module _ (P C : Record → Type 0)
           | inr b ↦
               elim (either (sameBytes (q .payload) (r .payload))) [
                 | inl t ↦ let n : _≡_ {A = ℕ} 0 15 = rw (b, t) at says in omega arith
-                | inr t ↦ same-payload q r t (meets r q b (m .spot .seed) c p (found-has (m .i) q (m .spot) .0))
+                | inr t ↦ not-same-bytes q r t (meets r q b (m .spot .seed) c p (found-has (m .i) q (m .spot) .0))
               ]
         ]
 

@@ -20,7 +20,7 @@ use Rattle.decoder.proofs.AllOf.{all-before, all-after}
 use Rattle.decoder.proofs.RecordBytes.{IsRecord, parts-fit, texts-length, records-back, texts-more, texts-replaced}
 use Rattle.decoder.proofs.SeedSearch.{Spot, found-spot, absent-has}
 use Rattle.decoder.proofs.LegalRead.{Recordable}
-use Rattle.decoder.proofs.Moves.{Move, added, full, met, Step}
+use Rattle.decoder.proofs.StoreSteps.{Move, added, full, met, Step}
 
 -- how many whole records fit a buffer
 abbrev pub room : ℕ → List ℕ → ℕ

@@ -19,7 +19,7 @@ use Rattle.decoder.specs.Store.{Record, recordsText, records, Stored, ac
 use Rattle.decoder.specs.Demand3.{seedsOf, keptReading, legalReads, firstSeeds, storedSeeds, bestOfEach, Holds, Call, readsOf, nextCount, Chained, lastBuffer, lastCount, isRefusal, takenReads, storedRecords, Best}
 use Rattle.decoder.proofs.LegalRead.{read-recordable}
 use Rattle.decoder.proofs.BestReads.{BestIn, best-each}
-use Rattle.decoder.proofs.Moves.{Step}
+use Rattle.decoder.proofs.StoreSteps.{Step}
 use Rattle.decoder.proofs.StoreCall.{room, countAfter, Stocked, Moved, held-records, held-fits, reading-moves}
 use Rattle.decoder.proofs.Account.{Account, empty-account, seenAfter, takenAfter, step-account}
 

@@ -146,7 +146,7 @@ twoBytesWrong = textLetters "TAAAAAAAAAAAAAACTGCAATCGTCAA"
 abbrev pub zeroMisread : List ℕ
 zeroMisread = textLetters "AAAAAAAAAAAAAAAAAAAAAAAAAAAC"
 
--- the record of seed 1 with a payload and a state byte, a mended one of seed 2, and the first as a definition (document 02, Item 5)
+-- the record of seed 1 with a payload and a state byte, a mended one of seed 2, and the first as a `Record` (document 02, Item 5)
 abbrev pub bytesOf1 : ℕ → ℕ → List ℕ
 bytesOf1 payload state = 0 ∷ 0 ∷ 0 ∷ 1 ∷ payload ∷ state ∷ []
 

@@ -190,6 +190,11 @@ module _ (c : Card) (weights : List ℕ) where
     -- a record of a clean read is a droplet of the file, whatever the other reads were, if every clean legal read is a strand of the file
     pub clean-records : (file lent : List ℕ) (calls : List Call) → AllBytes file → Chained c weights lent 0 calls → CleanPrinted file (readsOf calls)
         → All (λ r. r .clean ≡ true → payloadFor c weights file (r .seed) ≡ r .payload) (recordsOn (storeAfter lent calls))
+    -- and every sheet that is restored from such records alone, in a store of their own, in whatever order and number, is right
+    pub clean-back : (file lent : List ℕ) (calls : List Call) (store : LentStore) → length file ≡ c .f → AllBytes file
+        → Chained c weights lent 0 calls → CleanPrinted file (readsOf calls)
+        → All (λ r. (r .clean ≡ true) × Among r (recordsOn (storeAfter lent calls))) (recordsOn store)
+        → (r : Sheet) (file′ marks′ : List ℕ) → SheetFrom store r file′ marks′ → RightSheet file r file′ marks′
     -- then no clean read is refused for a payload that differs from the store's
     pub clean-never-15 : (file lent : List ℕ) (calls : List Call) → AllBytes file → Chained c weights lent 0 calls → CleanPrinted file (readsOf calls)
         → All (λ k. (s : ℕ) (p : List ℕ) → readCheck c weights (k .read) ≡ droplet s p 0 → k .answer ≡ reply.Refused 15 → ⊥) calls
@@ -208,9 +213,9 @@ module _ (c : Card) (weights : List ℕ) where
     -- reads of more seeds never hurt, where there is room for them
     pub more-reads : (file lent lent′ : List ℕ) (calls calls′ : List Call) → Job file lent calls → Job file lent′ calls′
         → RoomForAll lent′ calls′ → AllAmong (legalSeeds calls) (legalSeeds calls′) → NoBetter (storeAfter lent calls) (storeAfter lent′ calls′)
-    -- reads offered after others are of more seeds
+    -- reads offered after others are more reads, and of more seeds
     pub further-reads : (calls calls′ : List Call) (more : List (List ℕ)) → readsOf calls′ ≡ readsOf calls ++ more
-        → AllAmong (legalSeeds calls) (legalSeeds calls′)
+        → AllAmong (legalOf calls) (legalOf calls′) × AllAmong (legalSeeds calls) (legalSeeds calls′)
     -- the order of the reads, their repeats and whether they were corrected never matter, where there is room
     pub any-order : (file lent lent′ : List ℕ) (calls calls′ : List Call) → Job file lent calls → Job file lent′ calls′
         → RoomForAll lent calls → RoomForAll lent′ calls′ → AllAmong (legalSeeds calls) (legalSeeds calls′)

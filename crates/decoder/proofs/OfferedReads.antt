@@ -54,10 +54,11 @@ module _ (c : Card) (ws : List ℕ) where
   further (r ∷ rs) more x a = kept-among (readCheck c ws r) (legalReads c ws rs) (legalReads c ws (rs ++ more)) (further rs more) x a
 
   pub further-reads : (calls calls′ : List Call) (more : List (List ℕ)) → readsOf calls′ ≡ readsOf calls ++ more
-      → AllAmong (legalSeeds c ws calls) (legalSeeds c ws calls′)
+      → AllAmong (legalOf c ws calls) (legalOf c ws calls′) × AllAmong (legalSeeds c ws calls) (legalSeeds c ws calls′)
   further-reads calls calls′ more e =
-      among-mapped (λ (r : Record). r .seed) (legalOf c ws calls) (legalOf c ws calls′)
-      (λ x a. (x, subst (λ reads. Among x (legalReads c ws reads)) (sym e) (further (readsOf calls) more x a), refl))
+      let all : AllAmong (legalOf c ws calls) (legalOf c ws calls′)
+      = λ x a. subst (λ reads. Among x (legalReads c ws reads)) (sym e) (further (readsOf calls) more x a) in
+      (all, among-mapped (λ (r : Record). r .seed) (legalOf c ws calls) (legalOf c ws calls′) (λ x a. (x, all x a, refl)))
 
 -- ---- the seeds
 
