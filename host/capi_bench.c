@@ -2,16 +2,16 @@
  * stand there or follow from its rules: reads card P and cuts it again, writes strands of file Q, checks and stores the reads of
  * seeds 2, 1, 3, and restores. On the way it has calls refused, reads mended (document 02, Item 3), and runs document 02's example of
  * runs over the joints (Item 1) and the header's examples of dropped strands (Item 12), of a file of seven bytes, dealt by W = 3 (Item
- * 14), of positions of the seed schedule, with a job that two writers share (Item 7), and of clean reads over mended ones (Item 5).
- * Lent buffers and answers end in bytes that must survive, but in the job of two writers and the one with a dealt file, and all of them
- * must survive a refusal. Returns 1 if anything differs.
+ * 14), of positions of the seed schedule, with a job that two writers share (Item 7), of clean reads over mended ones (Item 5), and of
+ * the reads behind a record (Item 6). Lent buffers and answers end in bytes that must survive, but in the job of two writers and the one
+ * with a dealt file, and all of them must survive a refusal. Returns 1 if anything differs.
  *
  *   capi_bench bench.card */
 #include <stdio.h>
 #include <string.h>
 #include "fountain.h"
 
-enum { CANARY = 0xA5, SPARE = 8, N = 28, LINE = N + 1, DROPLET = 5, RECORD = 6, K = 4, D = 2 };
+enum { CANARY = 0xA5, SPARE = 8, N = 28, LINE = N + 1, DROPLET = 5, RECORD = 10, K = 4, D = 2 };
 #define UNSET UINT64_C(0xA5A5A5A5A5A5A5A5)
 
 static const uint8_t Q[4] = {0x1B, 0x27, 0x4E, 0xE4};
@@ -19,8 +19,9 @@ static const uint8_t Q[4] = {0x1B, 0x27, 0x4E, 0xE4};
 static const char *const READS[3] = {
     "AAAAAAAAAAAAAAAGCGGCGTCCTCTG", "AAAAAAAAAAAAAAACTGCAATCGTCAT", "AAAAAAAAAAAAAAATAGCTCGAACACA"};
 static const uint8_t DROPLETS[3][DROPLET] = {{0, 0, 0, 2, 0x69}, {0, 0, 0, 1, 0xE4}, {0, 0, 0, 3, 0x27}};
-/* their records, of clean reads */
-static const uint8_t RECORDS[3][RECORD] = {{0, 0, 0, 2, 0x69, 0}, {0, 0, 0, 1, 0xE4, 0}, {0, 0, 0, 3, 0x27, 0}};
+/* their records, of two clean reads each */
+static const uint8_t RECORDS[3][RECORD] = {
+    {0, 0, 0, 2, 0x69, 0, 0, 0, 0, 2}, {0, 0, 0, 1, 0xE4, 0, 0, 0, 0, 2}, {0, 0, 0, 3, 0x27, 0, 0, 0, 0, 2}};
 static int failures;
 
 static void number(const char *what, uint64_t got, uint64_t wanted)
@@ -297,7 +298,7 @@ static void refused_widths(const struct pool *p)
  * restorer gives back 00 00 00 4E, which undealt has 4E in its place 2. */
 static void dealt_job(const struct pool *p)
 {
-    static const uint8_t dealt[K] = {0x1B, 0xE4, 0x27, 0x4E}, record[RECORD] = {0, 0, 0, 1, 0x4E, 0};
+    static const uint8_t dealt[K] = {0x1B, 0xE4, 0x27, 0x4E}, record[RECORD] = {0, 0, 0, 1, 0x4E, 0, 0, 0, 0, 1};
     static const uint8_t restored[K] = {0, 0, 0, 0x4E}, restored_marks[K] = {0, 0, 0, 1}, undealt[K] = {0, 0, 0x4E, 0};
     static const uint64_t sheet[3] = {1, 2, 0};
     struct pool job = dealt_by(p, 3);
@@ -562,10 +563,19 @@ static void split_job(const struct pool *p)
     }
 }
 
-/* Stores the reads of seeds 2, 1 and 3 in this order, each twice. The shelf has no space for a fourth record. */
+/* How many reads are behind a record of a store: the header's lines. */
+static uint32_t reads_behind(const uint8_t *store, uint8_t L, size_t i)
+{
+    const uint8_t *at = store + i * (9 + L) + 5 + L;
+    uint32_t reads = (uint32_t)at[0] << 24 | (uint32_t)at[1] << 16 | (uint32_t)at[2] << 8 | at[3];
+    return reads;
+}
+
+/* Stores the reads of seeds 2, 1 and 3 in this order, each twice. The shelf has no space for a fourth record. In the end there are as many
+ * reads behind all records as calls that returned 0. */
 static void store_reads(const struct pool *p, uint8_t *store, size_t store_len)
 {
-    uint64_t a[3];
+    uint64_t a[3], behind = 0;
     for (size_t i = 0; i < 3; i++) {
         const uint8_t *read = (const uint8_t *)READS[i];
         const uint64_t accepted[2] = {0, i + 1}, repeat[2] = {1, i + 1};
@@ -577,16 +587,21 @@ static void store_reads(const struct pool *p, uint8_t *store, size_t store_len)
         kept("the shelf past its records", store + i * RECORD, store_len - i * RECORD);
         number("store", fountain_store(CARD(p), store, store_len, i, read, N, a), 0);
         answers("an accepted read", a, accepted, 2);
+        number("the reads behind a new record", reads_behind(store, p->L, i), 1);
         number("store again", fountain_store(CARD(p), store, store_len, i + 1, read, N, a), 0);
         answers("a repeat", a, repeat, 2);
         bytes("the records", store, RECORDS, (i + 1) * RECORD);
     }
     kept("the shelf past three records", store + 3 * RECORD, store_len - 3 * RECORD);
+    for (size_t i = 0; i < 3; i++)
+        behind += reads_behind(store, p->L, i);
+    number("the reads behind all records", behind, 6);
 }
 
 /* The strand of seed 1 and a read of it with its first byte wrong, on a shelf that has that seed in its second record with a payload and a
  * state, and again in its third (document 02, Item 5). A clean read takes over a mended record, whatever its payload and with any state
- * but 0; a mended read takes over none. The shelf is full, and no other byte changes. */
+ * but 0; a mended read takes over none. If the read is not refused, there is one more behind that record, 4 and not 3. The shelf is full,
+ * and no other byte changes. */
 static void clean_beats_mended(const struct pool *p)
 {
     static const char *const reads[2] = {"AAAAAAAAAAAAAAACTGCAATCGTCAT", "TTTTAAAAAAAAAAACTGCAATCGTCAT"};
@@ -599,9 +614,14 @@ static void clean_beats_mended(const struct pool *p)
         {1, 0xE4, 1, 0, 1, 0xE4, 1}, {1, 0xE5, 1, 15, 0, 0xE5, 1}, {1, 0xE4, 7, 0, 1, 0xE4, 7},
     };
     for (size_t i = 0; i < sizeof cases / sizeof cases[0]; i++) {
-        const uint8_t wanted[3 * RECORD] = {0, 0, 0, 2, 0x69, 1, 0, 0, 0, 1, cases[i].payload_after, cases[i].state_after, 0, 0, 0, 1, 0xE5, 1};
+        const uint8_t behind = cases[i].returned == 0 ? 4 : 3;
+        const uint8_t wanted[3 * RECORD] = {0, 0, 0, 2, 0x69, 1, 0, 0, 0, 1,
+                                            0, 0, 0, 1, cases[i].payload_after, cases[i].state_after, 0, 0, 0, behind,
+                                            0, 0, 0, 1, 0xE5, 1, 0, 0, 0, 2};
         const uint64_t answer[2] = {cases[i].answer, 3};
-        uint8_t store[3 * RECORD + SPARE] = {0, 0, 0, 2, 0x69, 1, 0, 0, 0, 1, cases[i].payload, cases[i].state, 0, 0, 0, 1, 0xE5, 1};
+        uint8_t store[3 * RECORD + SPARE] = {0, 0, 0, 2, 0x69, 1, 0, 0, 0, 1,
+                                             0, 0, 0, 1, cases[i].payload, cases[i].state, 0, 0, 0, 3,
+                                             0, 0, 0, 1, 0xE5, 1, 0, 0, 0, 2};
         uint64_t a[3];
         lend(store + 3 * RECORD, SPARE);
         lend(a, sizeof a);
@@ -625,7 +645,7 @@ static void replaced(const struct pool *p)
     uint64_t a[3];
     lend(store, sizeof store);
     for (size_t i = 0; i < 3; i++) {
-        const uint8_t record[RECORD] = {0, 0, 0, 1, 0xE4, i == 0};
+        const uint8_t record[RECORD] = {0, 0, 0, 1, 0xE4, i == 0, 0, 0, 0, (uint8_t)(i + 1)};
         lend(a, sizeof a);
         number("store", fountain_store(CARD(p), store, sizeof store, i > 0, (const uint8_t *)reads[i], N, a), 0);
         answers("accepted, replaced, repeat", a, wanted[i], 2);
@@ -634,9 +654,112 @@ static void replaced(const struct pool *p)
     }
 }
 
+/* The same two reads on a shelf that has their seed in its second record with some reads behind it, and again in its third (document 02,
+ * Item 6). A repeat and a replacement add one, with the carry, and from 0 too; where there are 4,294,967,295 they are refused as 20, and
+ * another payload that is not taken over is refused as 15 all the same. A repeat leaves the state, 7 too. The records before and behind
+ * it have counts that are full, which hinders none, and no other byte changes. */
+static void read_counts(const struct pool *p)
+{
+    static const char *const reads[2] = {"AAAAAAAAAAAAAAACTGCAATCGTCAT", "TTTTAAAAAAAAAAACTGCAATCGTCAT"};
+    static const struct {
+        int mended;
+        uint8_t payload, state, behind[4], returned, answer, payload_after, state_after, behind_after[4];
+    } cases[] = {
+        {0, 0xE4, 0, {0, 0, 0, 1}, 0, 1, 0xE4, 0, {0, 0, 0, 2}},
+        {0, 0xE4, 1, {0, 0, 0, 1}, 0, 2, 0xE4, 0, {0, 0, 0, 2}},
+        {0, 0xE5, 1, {0, 0, 0, 2}, 0, 2, 0xE4, 0, {0, 0, 0, 3}},
+        {1, 0xE4, 0, {0, 0, 0, 2}, 0, 1, 0xE4, 0, {0, 0, 0, 3}},
+        {1, 0xE4, 1, {0, 0, 0, 3}, 0, 1, 0xE4, 1, {0, 0, 0, 4}},
+        {1, 0xE4, 7, {0, 0, 0, 4}, 0, 1, 0xE4, 7, {0, 0, 0, 5}},
+        {0, 0xE4, 0, {0, 0, 0, 0}, 0, 1, 0xE4, 0, {0, 0, 0, 1}},
+        {0, 0xE5, 7, {0, 0, 0, 0}, 0, 2, 0xE4, 0, {0, 0, 0, 1}},
+        {0, 0xE4, 0, {0x12, 0x34, 0x56, 0x78}, 0, 1, 0xE4, 0, {0x12, 0x34, 0x56, 0x79}},
+        {0, 0xE4, 0, {0, 0, 0, 0xFF}, 0, 1, 0xE4, 0, {0, 0, 1, 0}},
+        {1, 0xE4, 7, {0, 0, 0xFF, 0xFF}, 0, 1, 0xE4, 7, {0, 1, 0, 0}},
+        {0, 0xE4, 0, {0, 0xFF, 0xFF, 0xFF}, 0, 1, 0xE4, 0, {1, 0, 0, 0}},
+        {0, 0xE5, 1, {0, 0xFF, 0xFF, 0xFF}, 0, 2, 0xE4, 0, {1, 0, 0, 0}},
+        {0, 0xE4, 0, {0x7F, 0xFF, 0xFF, 0xFF}, 0, 1, 0xE4, 0, {0x80, 0, 0, 0}},
+        {0, 0xE4, 0, {0xFF, 0, 0xFF, 0xFF}, 0, 1, 0xE4, 0, {0xFF, 1, 0, 0}},
+        {0, 0xE4, 0, {0xFF, 0xFF, 0xFF, 0xFE}, 0, 1, 0xE4, 0, {0xFF, 0xFF, 0xFF, 0xFF}},
+        {1, 0xE4, 7, {0xFF, 0xFF, 0xFF, 0xFE}, 0, 1, 0xE4, 7, {0xFF, 0xFF, 0xFF, 0xFF}},
+        {0, 0xE5, 1, {0xFF, 0xFF, 0xFF, 0xFE}, 0, 2, 0xE4, 0, {0xFF, 0xFF, 0xFF, 0xFF}},
+        {0, 0xE4, 0, {0xFF, 0xFF, 0xFF, 0xFF}, 20, 0, 0xE4, 0, {0xFF, 0xFF, 0xFF, 0xFF}},
+        {1, 0xE4, 0, {0xFF, 0xFF, 0xFF, 0xFF}, 20, 0, 0xE4, 0, {0xFF, 0xFF, 0xFF, 0xFF}},
+        {1, 0xE4, 7, {0xFF, 0xFF, 0xFF, 0xFF}, 20, 0, 0xE4, 7, {0xFF, 0xFF, 0xFF, 0xFF}},
+        {0, 0xE4, 1, {0xFF, 0xFF, 0xFF, 0xFF}, 20, 0, 0xE4, 1, {0xFF, 0xFF, 0xFF, 0xFF}},
+        {0, 0xE5, 7, {0xFF, 0xFF, 0xFF, 0xFF}, 20, 0, 0xE5, 7, {0xFF, 0xFF, 0xFF, 0xFF}},
+        {0, 0xE5, 0, {0xFF, 0xFF, 0xFF, 0xFF}, 15, 0, 0xE5, 0, {0xFF, 0xFF, 0xFF, 0xFF}},
+        {1, 0xE5, 0, {0xFF, 0xFF, 0xFF, 0xFF}, 15, 0, 0xE5, 0, {0xFF, 0xFF, 0xFF, 0xFF}},
+        {1, 0xE5, 1, {0xFF, 0xFF, 0xFF, 0xFF}, 15, 0, 0xE5, 1, {0xFF, 0xFF, 0xFF, 0xFF}},
+        {1, 0xE5, 0, {0, 0, 0, 1}, 15, 0, 0xE5, 0, {0, 0, 0, 1}},
+    };
+    for (size_t i = 0; i < sizeof cases / sizeof cases[0]; i++) {
+        const uint8_t *b = cases[i].behind, *c = cases[i].behind_after;
+        const uint8_t wanted[3 * RECORD] = {0, 0, 0, 2, 0x69, 1, 0xFF, 0xFF, 0xFF, 0xFF,
+                                            0, 0, 0, 1, cases[i].payload_after, cases[i].state_after, c[0], c[1], c[2], c[3],
+                                            0, 0, 0, 1, 0xE4, 0, 0xFF, 0xFF, 0xFF, 0xFF};
+        const uint64_t answer[2] = {cases[i].answer, 3};
+        uint8_t store[3 * RECORD + SPARE] = {0, 0, 0, 2, 0x69, 1, 0xFF, 0xFF, 0xFF, 0xFF,
+                                             0, 0, 0, 1, cases[i].payload, cases[i].state, b[0], b[1], b[2], b[3],
+                                             0, 0, 0, 1, 0xE4, 0, 0xFF, 0xFF, 0xFF, 0xFF};
+        const uint8_t *read = (const uint8_t *)reads[cases[i].mended];
+        uint64_t a[3];
+        lend(store + 3 * RECORD, SPARE);
+        lend(a, sizeof a);
+        number("count: 14", fountain_store(CARD(p), store, 3 * RECORD - 1, 3, read, N, a), 14);
+        number("count: 9", fountain_store(CARD(p), store, 3 * RECORD, 3, read, N - 1, a), 9);
+        number("count", fountain_store(CARD(p), store, 3 * RECORD, 3, read, N, a), cases[i].returned);
+        if (cases[i].returned == 0)
+            answers("the answer of a counted read", a, answer, 2);
+        else
+            kept("the answer of a read that is not counted", a, sizeof a);
+        bytes("the records and their counts", store, wanted, sizeof wanted);
+        kept("the shelf past them", store + 3 * RECORD, SPARE);
+    }
+}
+
+/* A new record has a count of 1, whatever stood there; at 4,294,967,294 its next read is the last one that is counted, clean or mended. */
+static void last_counts(const struct pool *p)
+{
+    static const uint8_t lent[3] = {0, CANARY, 0xFF};
+    static const uint8_t clean[RECORD] = {0, 0, 0, 1, 0xE4, 0, 0, 0, 0, 1}, mended[RECORD] = {0, 0, 0, 1, 0xE4, 1, 0, 0, 0, 1};
+    static const uint8_t full[RECORD] = {0, 0, 0, 1, 0xE4, 1, 0xFF, 0xFF, 0xFF, 0xFF};
+    static const uint64_t accepted[2] = {0, 1}, repeat[2] = {1, 1};
+    const uint8_t *strand = (const uint8_t *)"AAAAAAAAAAAAAAACTGCAATCGTCAT", *misread = (const uint8_t *)"TTTTAAAAAAAAAAACTGCAATCGTCAT";
+    uint8_t store[RECORD + SPARE];
+    uint64_t a[3];
+    lend(a, sizeof a);
+    for (int i = 0; i < 3; i++) {
+        lend(store, sizeof store);
+        memset(store, lent[i], RECORD);
+        number("accept a clean read", fountain_store(CARD(p), store, RECORD, 0, strand, N, a), 0);
+        answers("the answer of a clean read", a, accepted, 2);
+        bytes("the record of a clean read", store, clean, RECORD);
+        memset(store, lent[i], RECORD);
+        number("accept a mended read", fountain_store(CARD(p), store, RECORD, 0, misread, N, a), 0);
+        answers("the answer of a mended read", a, accepted, 2);
+        bytes("the record of a mended read", store, mended, RECORD);
+        kept("the shelf past a new record", store + RECORD, SPARE);
+    }
+    memcpy(store, full, RECORD);
+    store[RECORD - 1] = 0xFE;
+    number("the reads behind a record that is nearly full", reads_behind(store, p->L, 0), 4294967294);
+    number("the last read", fountain_store(CARD(p), store, sizeof store, 1, misread, N, a), 0);
+    answers("the answer of the last read", a, repeat, 2);
+    bytes("the full record", store, full, RECORD);
+    number("the reads behind a full record", reads_behind(store, p->L, 0), 4294967295);
+    lend(a, sizeof a);
+    number("a repeat too many", fountain_store(CARD(p), store, sizeof store, 1, misread, N, a), 20);
+    number("a replacement too many", fountain_store(CARD(p), store, sizeof store, 1, strand, N, a), 20);
+    number("another seed beside a full record", fountain_store(CARD(p), store, sizeof store, 1, (const uint8_t *)READS[0], N, a), 16);
+    kept("the answer of a read too many", a, sizeof a);
+    bytes("the full record", store, full, RECORD);
+    kept("the shelf past the full record", store + RECORD, SPARE);
+}
+
 static void restore_refused(const struct pool *p, const uint8_t *store)
 {
-    static const uint8_t seed_zero[RECORD] = {0, 0, 0, 0, 1, 0};
+    static const uint8_t seed_zero[RECORD] = {0, 0, 0, 0, 1, 0, 0, 0, 0, 1};
     uint8_t file[K + SPARE], marks[K + SPARE];
     uint32_t list[D + SPARE];
     uint64_t a[4];
@@ -679,8 +802,10 @@ int main(int argc, char **argv)
 {
     static const uint64_t three[3] = {3, 3, 0}, none[3] = {0, 1, 0};
     static const uint8_t file[K] = {0, 0x27, 0x4E, 0xE4}, marks[K] = {0, 1, 1, 1}, zeros[K] = {0, 0, 0, 0};
-    /* seed 1 picks segment 3: the first of these records fills it, though it is mended, and the other three contradict it */
-    static const uint8_t disputed[4 * RECORD] = {0, 0, 0, 1, 0xE4, 1, 0, 0, 0, 1, 0xE5, 0, 0, 0, 0, 1, 0xE6, 7, 0, 0, 0, 1, 0xE7, 0};
+    /* seed 1 picks segment 3: the first of these records fills it, though it is mended and no read is behind it, and the other three
+     * contradict it */
+    static const uint8_t disputed[4 * RECORD] = {0, 0, 0, 1, 0xE4, 1, 0, 0, 0, 0, 0, 0, 0, 1, 0xE5, 0, 0xFF, 0xFF, 0xFF, 0xFF,
+                                                 0, 0, 0, 1, 0xE6, 7, 0, 0, 0, 9, 0, 0, 0, 1, 0xE7, 0, 0, 0, 0, 1};
     static const uint64_t one[3] = {1, 2, 3};
     static const uint8_t last_file[K] = {0, 0, 0, 0xE4}, last_mark[K] = {0, 0, 0, 1};
     uint8_t card[64], store[3 * RECORD + 4];
@@ -714,6 +839,8 @@ int main(int argc, char **argv)
     store_reads(&p, store, sizeof store);
     clean_beats_mended(&p);
     replaced(&p);
+    read_counts(&p);
+    last_counts(&p);
     restore_refused(&p, store);
     restore(&p, store, 3, three, file, marks);
     restore(&p, NULL, 0, none, zeros, zeros);

@@ -54,9 +54,11 @@ extern "C" {
  * run of a site alone does not count.
  *
  * D is the number of weights, K the number of segments (F divided by L, rounded up), n the strand length, 4 * (4 + L + R)
- * letters. A record is a seed (four bytes, most significant first), L payload bytes and a state byte: 5 + L bytes. The state is 0 if
- * the read of the record was clean, and 1 if it was mended; any other byte counts as mended. Records of before, 4 + L bytes without a
- * state, cannot be told apart from these: do not hand them over. */
+ * letters. A record is a seed (four bytes, most significant first), L payload bytes, a state byte and a read count (four bytes, most
+ * significant first): 9 + L bytes. The state is 0 if the payload is that of a clean read, and 1 if it is that of a mended one; any other
+ * byte counts as mended. The read count is how many reads are behind the record: 1 when it is appended, and one more at each repeat or
+ * replacement. Records of before, 4 + L bytes without a state or 5 + L bytes without a read count, cannot be told apart from these: do
+ * not hand them over. */
 
 /* Reads a pool card.
  *
@@ -226,17 +228,29 @@ uint32_t fountain_check_read(uint32_t F, uint8_t L, uint8_t R, uint8_t m, uint16
  *                     count to hand to the next call, which a repeat and a replacement leave as it was
  *
  * For example, under the bench card the strand of seed 1 is AAAAAAAAAAAAAAACTGCAATCGTCAT, and its payload is E4. The read
- * TTTTAAAAAAAAAAACTGCAATCGTCAT, mended, leaves the record 00 00 00 01 E4 01 in an empty store; the strand itself is then answered
- * with 2 and leaves 00 00 00 01 E4 00, and offered again with 1.
+ * TTTTAAAAAAAAAAACTGCAATCGTCAT, mended, is offered to an empty store, then the strand itself, twice; the record after each:
  *
- * Returns 0 and fills answer. If the read was accepted, the 5 + L bytes of store from count * (5 + L) on hold its record, and
- * all others are as they were; if it replaced, the first record of its seed has its payload and state 0, and all other bytes are as they
- * were; if it was a repeat, all are. Otherwise (the next call is handed the same count):
+ *      read                          answer[0]  record
+ *      TTTTAAAAAAAAAAACTGCAATCGTCAT          0  00 00 00 01 E4 01 00 00 00 01
+ *      AAAAAAAAAAAAAAACTGCAATCGTCAT          2  00 00 00 01 E4 00 00 00 00 02
+ *      AAAAAAAAAAAAAAACTGCAATCGTCAT          1  00 00 00 01 E4 00 00 00 00 03
+ *
+ * In a store that was empty at first the read counts sum to the number of reads that were not refused. That of record i, a size_t
+ * counted from 0:
+ *
+ *      const uint8_t *at = store + i * (9 + L) + 5 + L;
+ *      uint32_t reads = (uint32_t)at[0] << 24 | (uint32_t)at[1] << 16 | (uint32_t)at[2] << 8 | at[3];
+ *
+ * Returns 0 and fills answer. If the read was accepted, the 9 + L bytes of store from count * (9 + L) on hold its record, with a read
+ * count of 1; if it replaced, the first record of its seed has its payload, state 0 and a read count of one more; if it was a repeat,
+ * that record has a read count of one more, and its payload and state are as they were. All other bytes of store are as they were. (A
+ * read count of 0, which no call writes, is 1 after a repeat or a replacement.) Otherwise (the next call is handed the same count):
  *
  *    2, 3, 4, 27  as above
- *   14  count * (5 + L) is more than store_len
+ *   14  count * (9 + L) is more than store_len
  *    9 to 13  as of fountain_check_read
  *   15  the first record of this seed has another payload, and is clean or the read is mended
+ *   20  the read would repeat or replace that record, but its read count is 4,294,967,295
  *   16  the seed is new, and there is no space for its record */
 uint32_t fountain_store(uint32_t F, uint8_t L, uint8_t R, uint8_t m, uint16_t lo, uint16_t hi, uint8_t dealt, uint32_t width,
                         const uint8_t *weights, size_t weights_len,
@@ -244,8 +258,8 @@ uint32_t fountain_store(uint32_t F, uint8_t L, uint8_t R, uint8_t m, uint16_t lo
                         const uint8_t *read, size_t read_len,
                         uint64_t answer[2]);
 
-/* Restores what the records of a store give of a file. It looks at their seeds and payloads, and not at their states. To restore from
- * clean reads alone, hand over a store of the records whose state is 0, copied one behind the other, and their number.
+/* Restores what the records of a store give of a file. It looks at their seeds and payloads, and not at their states and read counts. To
+ * restore from clean reads alone, hand over a store of the records whose state is 0, copied one behind the other, and their number.
  *
  *   F .. weights_len  as above
  *   store, store_len  the store, of which nothing is written
@@ -261,7 +275,7 @@ uint32_t fountain_store(uint32_t F, uint8_t L, uint8_t R, uint8_t m, uint16_t lo
  * hold anything, those past D are as they were. Otherwise:
  *
  *    2, 3, 4, 27  as above
- *   14  count * (5 + L) is more than store_len
+ *   14  count * (9 + L) is more than store_len
  *   17  a record of the store has seed 0
  *   18  file is shorter than K * L bytes, or marks than K
  *    8  list has fewer than D places */

@@ -5,7 +5,7 @@ mod archive;
 mod tuned;
 
 use std::collections::HashSet;
-use tuned::Card;
+use tuned::{record_bytes, Card};
 
 /// The processor time of this thread in seconds: other work on the machine does not count.
 fn clock() -> f64 {
@@ -305,6 +305,39 @@ fn shelve_all(
     (count, answers)
 }
 
+/// Records with true and false payloads, of clean and mended reads, with counts of which some are full or soon will be, each offered a
+/// mended read, a clean one, and both kinds again: not timed, but both sides must agree on each, and the answers are known.
+fn compare_counts(
+    card: Card,
+    weights: &[u8],
+    records: &[u8],
+    text: &[u8],
+    line: usize,
+    random: &mut Random,
+) {
+    let (l, size) = (card.l as usize, record_bytes(card.l as usize));
+    let counts = [0, 1, 0x00FF_FFFF, u32::MAX - 2, u32::MAX - 1, u32::MAX];
+    let picked: Vec<usize> = (0..6 * counts.len()).collect();
+    let mut shelf_a = records[..picked.len() * size].to_vec();
+    for (i, record) in shelf_a.chunks_exact_mut(size).enumerate() {
+        record[4] ^= (i % 2) as u8;
+        record[4 + l] = [0, 1, 7][i / 2 % 3];
+        record[5 + l..].copy_from_slice(&counts[i / 6].to_be_bytes());
+    }
+    let (mut shelf_b, mut met) = (shelf_a.clone(), [0; 32]);
+    for wrong in [1, 0, 1, 0] {
+        for read in wrong_reads(text, line, &picked, wrong, random) {
+            let (read, count) = ([read], picked.len());
+            let a = shelve_all(archive::store, card, weights, &mut shelf_a, count, &read);
+            let b = shelve_all(tuned::store, card, weights, &mut shelf_b, count, &read);
+            assert!(a == b && shelf_a == shelf_b, "the counts differ");
+            met.iter_mut().zip(a.1).for_each(|(sum, n)| *sum += n);
+        }
+    }
+    // repeats and replacements, other payloads and full counts
+    assert_eq!([met[1], met[2], met[15], met[20]], [51, 18, 38, 37]);
+}
+
 fn run(job: &Job) -> Vec<Line> {
     let card = job.card;
     let l = card.l as usize;
@@ -393,11 +426,13 @@ fn run(job: &Job) -> Vec<Line> {
     }
 
     // shelve
-    let size = 5 + l;
+    let size = record_bytes(l);
     let mut records = vec![0u8; strands * size];
     for (record, strand) in records.chunks_exact_mut(size).zip(out_a.chunks_exact(line)) {
-        let (strand, droplet) = (&strand[..line - 1], &mut record[..size - 1]);
+        let (strand, (droplet, rest)) = (&strand[..line - 1], record.split_at_mut(4 + l));
         assert_eq!(archive::check_read(card, &weights, strand, droplet), 0);
+        // clean, and one read behind it
+        rest.copy_from_slice(&[0, 0, 0, 0, 1]);
     }
     let mut filled = vec![0xEE; (strands + 1) * size + 5];
     let first = job.shelved_first * size;
@@ -434,20 +469,40 @@ fn run(job: &Job) -> Vec<Line> {
     let from = job.shelved_first;
     // a read with more wrong bytes than can be mended may be mended to a strand that was not written: its record may be false, until a
     // clean read of its seed replaces it
-    let printed: HashSet<&[u8]> = records.chunks_exact(size).map(|r| &r[..size - 1]).collect();
+    let printed: HashSet<&[u8]> = records.chunks_exact(size).map(|r| &r[..4 + l]).collect();
     let shelved = shelf_a[..count * size].chunks_exact(size);
-    let mended = shelved.clone().filter(|r| r[size - 1] != 0).count();
-    let other = shelved
-        .filter(|r| !printed.contains(&r[..size - 1]))
-        .count();
+    let behind = |r: &[u8]| u32::from_be_bytes(r[5 + l..].try_into().unwrap()) as usize;
+    let each: Vec<usize> = shelved.clone().map(behind).collect();
+    let taken: usize = answers[..3].iter().sum();
+    assert_eq!(
+        each.iter().sum::<usize>(),
+        from + taken,
+        "other reads behind the records"
+    );
+    let mended: Vec<usize> = shelved
+        .clone()
+        .filter(|r| r[4 + l] != 0)
+        .map(behind)
+        .collect();
+    let other: Vec<usize> = shelved
+        .filter(|r| !printed.contains(&r[..4 + l]))
+        .map(behind)
+        .collect();
+    compare_counts(card, &weights, &records, &out_a, line, &mut random);
     lines.push(Line {
         phase: "shelve",
         what: format!(
-            "{} reads, {} accepted, {} repeats, {} replaced, shelf {from} to {count}, {mended} mended in the end, {other} not as written",
+            "{} reads, {} accepted, {} repeats, {} replaced, shelf {from} to {count}, {} mended in the end, {} not as written; {}, {} and {} of these have one read behind them, the most {}",
             reads.len(),
             answers[0],
             answers[1],
-            answers[2]
+            answers[2],
+            mended.len(),
+            other.len(),
+            singles(&each),
+            singles(&mended),
+            singles(&other),
+            each.iter().max().unwrap_or(&0)
         ),
         proved,
         rust,
@@ -456,12 +511,15 @@ fn run(job: &Job) -> Vec<Line> {
     // restore: all records, of which false ones make false segments, and those of clean reads, which are as written here
     let shelf = &shelf_a[..count * size];
     let all = restores(job, &weights, &file, shelf, "records");
-    assert!(other > 0 || all.1 == 0, "the file did not come back");
+    assert!(
+        !other.is_empty() || all.1 == 0,
+        "the file did not come back"
+    );
     let clean = restores(
         job,
         &weights,
         &file,
-        &clean_records(shelf, size),
+        &clean_records(shelf, l),
         "records of clean reads",
     );
     assert_eq!(clean.1, 0, "a clean read is not as written");
@@ -469,10 +527,16 @@ fn run(job: &Job) -> Vec<Line> {
     lines
 }
 
+/// How many of these numbers are 1.
+fn singles(numbers: &[usize]) -> usize {
+    numbers.iter().filter(|&&n| n == 1).count()
+}
+
 /// A restore from some records, with the number of segments that came back and are not the file's.
 fn restores(job: &Job, weights: &[u8], file: &[u8], records: &[u8], of: &str) -> (Line, usize) {
     let (card, l) = (job.card, job.card.l as usize);
-    let (k, count) = ((card.f as usize).div_ceil(l), records.len() / (5 + l));
+    let k = (card.f as usize).div_ceil(l);
+    let count = records.len() / record_bytes(l);
     let shelf = [records, &[0xEE; 5]].concat();
     let (mut file_a, mut file_b) = (vec![0xAA; k * l + 3], vec![0xAA; k * l + 3]);
     let (mut marks_a, mut marks_b) = (vec![7; k + 3], vec![7; k + 3]);
@@ -536,8 +600,9 @@ fn wrong_segments(l: usize, file: &[u8], restored: &[u8], marks: &[u8]) -> usize
 }
 
 /// A shelf without the records of mended reads.
-fn clean_records(shelf: &[u8], size: usize) -> Vec<u8> {
-    let clean = shelf.chunks_exact(size).filter(|r| r[size - 1] == 0);
+fn clean_records(shelf: &[u8], l: usize) -> Vec<u8> {
+    let records = shelf.chunks_exact(record_bytes(l));
+    let clean = records.filter(|r| r[4 + l] == 0);
     clean.flatten().copied().collect()
 }
 

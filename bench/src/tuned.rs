@@ -1,5 +1,5 @@
-//! Documents 01 and 02 (Items 1, 3, 12 and 14) in Rust, tuned for speed, behind the same interface as the proved archives: the same
-//! buffers, the same checks in each call, no memory of its own between calls and no allocation. It is tuned where plain code would be
+//! Documents 01 and 02 (Items 1, 3, 5, 6, 12 and 14) in Rust, tuned for speed, behind the same interface as the proved archives: the
+//! same buffers, the same checks in each call, no memory of its own between calls and no allocation. It is tuned where plain code would be
 //! unfair: letters, C and G, doubling, parity, logarithms and the roots of quadratics by tables that are computed when it is compiled,
 //! and a bitmap for large sets.
 
@@ -217,6 +217,11 @@ fn plan_of(card: &Card, weights: &[u8]) -> Result<Plan, u32> {
         degrees,
         sum: sum as u32,
     })
+}
+
+/// Seed, payload, a state byte and the count of the reads behind them.
+pub fn record_bytes(l: usize) -> usize {
+    4 + l + 1 + 4
 }
 
 fn word_bytes(card: &Card) -> usize {
@@ -441,7 +446,7 @@ pub fn store(
     if let Err(n) = plan_of(&card, weights) {
         return n;
     }
-    let size = 5 + card.l as usize;
+    let (size, state) = (record_bytes(card.l as usize), 4 + card.l as usize);
     if count > shelf.len() / size {
         return 14;
     }
@@ -450,29 +455,36 @@ pub fn store(
         Ok(mended) => mended,
         Err(n) => return n,
     };
-    let droplet = &word[..size - 1];
+    let droplet = &word[..state];
     let seed = u32::from_ne_bytes([word[0], word[1], word[2], word[3]]);
     let there = find(&shelf[..count * size], size, seed);
     if let Some(i) = there {
         let record = &mut shelf[i * size..(i + 1) * size];
-        if !mended && record[size - 1] != 0 {
-            record[4..size - 1].copy_from_slice(&droplet[4..]);
-            record[size - 1] = 0;
-            *answer = [2, count as u64];
-            return 0;
-        }
-        if record[..size - 1] != *droplet {
+        let takes_over = !mended && record[state] != 0;
+        if !takes_over && record[..state] != *droplet {
             return 15;
         }
-        *answer = [1, count as u64];
+        let (evidence, behind) = record.split_at_mut(state + 1);
+        let reads = u32::from_be_bytes([behind[0], behind[1], behind[2], behind[3]]);
+        if reads == u32::MAX {
+            return 20;
+        }
+        behind.copy_from_slice(&(reads + 1).to_be_bytes());
+        if takes_over {
+            evidence[4..state].copy_from_slice(&droplet[4..]);
+            evidence[state] = 0;
+        }
+        *answer = [1 + takes_over as u64, count as u64];
         return 0;
     }
     let at = count * size;
     if shelf.len() - at < size {
         return 16;
     }
-    shelf[at..at + size - 1].copy_from_slice(droplet);
-    shelf[at + size - 1] = u8::from(mended);
+    let (evidence, behind) = shelf[at..at + size].split_at_mut(state + 1);
+    evidence[..state].copy_from_slice(droplet);
+    evidence[state] = u8::from(mended);
+    behind.copy_from_slice(&1u32.to_be_bytes());
     *answer = [0, count as u64 + 1];
     0
 }
@@ -701,7 +713,7 @@ pub fn restore(
         Err(n) => return n,
     };
     let l = card.l as usize;
-    let (k, size) = (plan.k as usize, 5 + l);
+    let (k, size) = (plan.k as usize, record_bytes(l));
     if count > shelf.len() / size {
         return 14;
     }

@@ -6,6 +6,7 @@
 
 use crate::check_bytes_letters_screen::{read_check, Droplet};
 use crate::pool_card::Handed;
+use crate::read_counts::answered_of_a_seed;
 
 /// "A record gains a state byte after its payload: 0 clean, 1 mended; any other byte
 /// reads as mended."
@@ -50,14 +51,15 @@ impl State {
 /// of reads and not of one call after the other: "In demand 3 the seeds still stand in
 /// the order of their first legal reads. For each seed that found space, the record at
 /// the end of the list is now its first clean read that was not refused, or its first
-/// mended one if there is none."
+/// mended one if there is none." Its count is the number of reads behind it (Item 6).
 ///
 /// Takes the reads offered, in their order, and how many whole records fit the buffer.
 /// "A legal read is one that the read check accepts." The first clean read of a seed
-/// that found space is not refused: its seed is new or stands there as mended. So the
-/// first clean one among the legal reads is meant.
+/// that found space is not refused: its seed is new or stands there as mended, with a
+/// count that is not full. So the first clean one among the legal reads is meant.
 ///
-/// Needs questions 2 to 4 and 27 to have said yes.
+/// Needs questions 2 to 4 and 27 to have said yes, and at most 4,294,967,295 reads, so
+/// that no count is full before the last of them.
 pub fn records_after_a_list(handed: &Handed, reads: &[Vec<u8>], fit: usize) -> Vec<Vec<u8>> {
     let legal: Vec<Droplet> = reads
         .iter()
@@ -73,22 +75,30 @@ pub fn records_after_a_list(handed: &Handed, reads: &[Vec<u8>], fit: usize) -> V
     seeds
         .iter()
         .map(|&seed| {
-            let first = |state: State| {
-                legal
-                    .iter()
-                    .find(|droplet| droplet.seed == seed && State::of_read(droplet) == state)
-            };
-            let (kept, state_byte) = match (first(State::Clean), first(State::Mended)) {
-                (Some(clean), _) => (clean, 0),
-                (None, Some(mended)) => (mended, 1),
-                (None, None) => panic!("a seed that stands there has a legal read"),
-            };
-            let mut record = seed.to_be_bytes().to_vec();
-            record.extend(&kept.payload[..usize::from(handed.l)]);
-            record.push(state_byte);
-            record
+            let of_seed: Vec<&Droplet> = legal.iter().filter(|d| d.seed == seed).collect();
+            record_after_a_list(handed.l, &of_seed)
         })
         .collect()
+}
+
+/// The record at the end of the list, from all legal reads of its seed.
+fn record_after_a_list(l: u8, of_seed: &[&Droplet]) -> Vec<u8> {
+    let first = |state: State| {
+        of_seed
+            .iter()
+            .find(|droplet| State::of_read(droplet) == state)
+    };
+    let (kept, state_byte) = match (first(State::Clean), first(State::Mended)) {
+        (Some(clean), _) => (clean, 0),
+        (None, Some(mended)) => (mended, 1),
+        (None, None) => panic!("a seed that stands there has a legal read"),
+    };
+    let mut record = kept.seed.to_be_bytes().to_vec();
+    record.extend(&kept.payload[..usize::from(l)]);
+    record.push(state_byte);
+    let behind = answered_of_a_seed(of_seed) as u32;
+    record.extend(behind.to_be_bytes());
+    record
 }
 
 #[cfg(test)]
@@ -187,7 +197,9 @@ mod tests {
         for read in reads {
             let before = shelf.to_vec();
             let droplet = read_check(handed, read);
-            match shelve(handed, read, shelf, count) {
+            let answer = shelve(handed, read, shelf, count);
+            let changed = shelf.iter().zip(&before).filter(|(a, b)| a != b).count();
+            match answer {
                 Ok(Shelved::Accepted { count: after }) => {
                     assert_eq!(after, count + 1);
                     count = after;
@@ -195,16 +207,18 @@ mod tests {
                 }
                 Ok(Shelved::Replaced { count: after }) => {
                     assert_eq!(after, count);
-                    // Whatever is taken over, one state byte is another one than before.
-                    match shelf.iter().zip(&before).filter(|(a, b)| a != b).count() {
-                        1 => met.replaced_by_the_same += 1,
+                    // Whatever is taken over, the state byte and the last byte of the
+                    // count are others than before.
+                    match changed {
+                        2 => met.replaced_by_the_same += 1,
                         _ => met.replaced_by_another += 1,
                     }
                     continue;
                 }
                 Ok(Shelved::Repeat { count: after }) => {
-                    assert_eq!(after, count);
+                    assert_eq!((after, changed), (count, 1));
                     met.repeats += 1;
+                    continue;
                 }
                 Err(Refusal(15)) if droplet.unwrap().mended == 0 => met.fifteen_clean += 1,
                 Err(Refusal(15)) => met.fifteen_mended += 1,
@@ -230,7 +244,7 @@ mod tests {
                 r: [2, 4][trial % 2],
                 ..LOOSE
             };
-            let lent: Vec<u8> = (0..numbers.below(45))
+            let lent: Vec<u8> = (0..numbers.below(75))
                 .map(|_| numbers.below(256) as u8)
                 .collect();
             let reads: Vec<Vec<u8>> = (0..numbers.below(40))
@@ -239,7 +253,7 @@ mod tests {
             let mut shelf = lent.clone();
             let count = shelve_all(&handed, &reads, &mut shelf, &mut met);
 
-            let expected = records_after_a_list(&handed, &reads, lent.len() / 6);
+            let expected = records_after_a_list(&handed, &reads, lent.len() / 10);
             assert_eq!(count, expected.len());
             met.still_mended += expected.iter().filter(|record| record[5] == 1).count();
             let expected = expected.concat();
@@ -276,18 +290,34 @@ mod tests {
         };
         assert_eq!(go(&[], 9), []);
         assert_eq!(go(&[&clean], 0), []);
-        assert_eq!(go(&[&misread], 9), [0, 0, 0, 1, 0xE4, 1]);
-        assert_eq!(go(&[&misread, &clean], 9), [0, 0, 0, 1, 0xE4, 0]);
-        assert_eq!(go(&[&clean, &misread], 9), [0, 0, 0, 1, 0xE4, 0]);
-        assert_eq!(go(&[&other_misread, &misread], 9), [0, 0, 0, 1, 0xE5, 1]);
+        assert_eq!(go(&[&misread], 9), [0, 0, 0, 1, 0xE4, 1, 0, 0, 0, 1]);
+        assert_eq!(
+            go(&[&misread, &clean], 9),
+            [0, 0, 0, 1, 0xE4, 0, 0, 0, 0, 2]
+        );
+        assert_eq!(
+            go(&[&clean, &misread], 9),
+            [0, 0, 0, 1, 0xE4, 0, 0, 0, 0, 2]
+        );
+        // The second is refused under 15.
+        assert_eq!(
+            go(&[&other_misread, &misread], 9),
+            [0, 0, 0, 1, 0xE5, 1, 0, 0, 0, 1]
+        );
+        // The second takes over and the third is refused.
         assert_eq!(
             go(&[&other_misread, &clean, &other], 9),
-            [0, 0, 0, 1, 0xE4, 0]
+            [0, 0, 0, 1, 0xE4, 0, 0, 0, 0, 2]
         );
+        // Of seed 1 a mended read, a clean one that takes over, and one that is refused.
+        let record_of_2 = [0, 0, 0, 2, 0x69, 0, 0, 0, 0, 1];
         assert_eq!(
             go(&[&misread, &seed_2, &b"AAAN".to_vec(), &other, &clean], 9),
-            [0, 0, 0, 1, 0xE5, 0, 0, 0, 0, 2, 0x69, 0]
+            [[0, 0, 0, 1, 0xE5, 0, 0, 0, 0, 2], record_of_2].concat()
         );
-        assert_eq!(go(&[&misread, &seed_2, &other], 1), [0, 0, 0, 1, 0xE5, 0]);
+        assert_eq!(
+            go(&[&misread, &seed_2, &other], 1),
+            [0, 0, 0, 1, 0xE5, 0, 0, 0, 0, 2]
+        );
     }
 }

@@ -27,6 +27,7 @@ pub mod listing;
 pub mod mending;
 pub mod pool_card;
 pub mod questions;
+pub mod read_counts;
 pub mod restorer;
 pub mod schedule_position;
 pub mod shelf;

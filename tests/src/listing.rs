@@ -2,8 +2,9 @@
 
 use crate::pool_card::{k_of, read_card};
 use crate::questions::Refusal;
+use crate::read_counts::total_behind;
 use crate::restorer::restore;
-use crate::shelf::{shelve, Shelved};
+use crate::shelf::{records, shelve, Shelved};
 
 /// "reads from standard input, one a line (a last line without newline counts;
 /// an empty line is a read of length 0)"
@@ -82,10 +83,13 @@ pub fn listing(pool_card: Option<&[u8]>, standard_input: &[u8]) -> String {
     .expect("the card is accepted, the shelf is ours and the buffers are as long as asked");
 
     // "print two lines: lines read and how they were answered; then K and the
-    // restore's three numbers."
+    // restore's three numbers." Document 02, Item 6: "The listing gains a third line,
+    // "behind", a blank and the total over all records".
+    let behind = total_behind(&records(&shelf, count, card.l));
     format!(
         "reads {reads} accepted {accepted} repeated {repeated} refused {refused}\n\
-         segments {k} present {} sweeps {} contradictions {}\n",
+         segments {k} present {} sweeps {} contradictions {}\n\
+         behind {behind}\n",
         restored.present, restored.sweeps, restored.contradictions
     )
 }
@@ -109,11 +113,14 @@ AAAAAAAAAAAAAAACTGCAATCGTCAT
 AAAN
 ";
 
-    /// The listing of the bench examples.
+    /// The listing of the bench examples, and document 02, Item 6: "The listing gains a
+    /// third line, "behind", a blank and the total over all records". Seed 1 was read
+    /// twice, seeds 2 and 3 once each.
     #[test]
     fn bench_listing() {
         let expected = "reads 5 accepted 3 repeated 1 refused 1\n\
-                        segments 4 present 3 sweeps 3 contradictions 0\n";
+                        segments 4 present 3 sweeps 3 contradictions 0\n\
+                        behind 4\n";
         assert_eq!(listing(Some(&P), FIVE_LINES), expected);
         // "a last line without newline counts"
         assert_eq!(
@@ -135,7 +142,8 @@ AAAN
         assert_eq!(
             listing(Some(&P), lines),
             "reads 5 accepted 3 repeated 1 refused 1\n\
-             segments 4 present 3 sweeps 3 contradictions 0\n"
+             segments 4 present 3 sweeps 3 contradictions 0\n\
+             behind 4\n"
         );
     }
 
@@ -145,7 +153,8 @@ AAAN
         assert_eq!(
             listing(Some(&P), b""),
             "reads 0 accepted 0 repeated 0 refused 0\n\
-             segments 4 present 0 sweeps 1 contradictions 0\n"
+             segments 4 present 0 sweeps 1 contradictions 0\n\
+             behind 0\n"
         );
     }
 
@@ -161,7 +170,8 @@ AAAN
         assert_eq!(
             listing(Some(&P), b"\n\nAAAAAAAAAAAAAAACTGCAATCGTCAT\r\n"),
             "reads 3 accepted 0 repeated 0 refused 3\n\
-             segments 4 present 0 sweeps 1 contradictions 0\n"
+             segments 4 present 0 sweeps 1 contradictions 0\n\
+             behind 0\n"
         );
     }
 
@@ -194,7 +204,8 @@ AAAN
     #[test]
     fn cards_with_a_width() {
         let expected = "reads 5 accepted 3 repeated 1 refused 1\n\
-                        segments 4 present 3 sweeps 3 contradictions 0\n";
+                        segments 4 present 3 sweeps 3 contradictions 0\n\
+                        behind 4\n";
         for width in [2, 3, 4] {
             assert_eq!(listing(Some(&p_dealt(width)), FIVE_LINES), expected);
         }
@@ -236,7 +247,8 @@ AAAN
         assert_eq!(
             listing(Some(&card_with(32_768, 1, 1)), b""),
             "reads 0 accepted 0 repeated 0 refused 0\n\
-             segments 32768 present 0 sweeps 1 contradictions 0\n"
+             segments 32768 present 0 sweeps 1 contradictions 0\n\
+             behind 0\n"
         );
         assert_eq!(
             listing(Some(&card_with(32_769, 1, 1)), b""),
@@ -250,7 +262,8 @@ AAAN
         assert_eq!(
             listing(Some(&card_with(32_760, 63, 1)), b""),
             "reads 0 accepted 0 repeated 0 refused 0\n\
-             segments 520 present 0 sweeps 1 contradictions 0\n"
+             segments 520 present 0 sweeps 1 contradictions 0\n\
+             behind 0\n"
         );
         assert_eq!(
             listing(Some(&card_with(8_388_608, 64, 1)), b"A"),
@@ -261,12 +274,13 @@ AAAN
     }
 
     /// "Its shelf is 65,536 bytes; reads past that are refused under 16": with
-    /// L = 64 there is space for 949 records of 69 bytes.
+    /// L = 64 there is space for 897 records of 73 bytes. Of the first ten seeds there is
+    /// a second read each.
     #[test]
     fn full_shelf() {
         let card = card_with(64, 64, 1);
         let mut input = Vec::new();
-        for seed in 1..=1000u32 {
+        for seed in (1..=1000u32).chain(1..=10) {
             // A seed spread over all four bytes and a payload without long runs.
             let seed = seed.wrapping_mul(0x9E37_79B1);
             let payload = [0x1B; 64];
@@ -275,8 +289,9 @@ AAAN
         }
         assert_eq!(
             listing(Some(&card), &input),
-            "reads 1000 accepted 949 repeated 0 refused 51\n\
-             segments 1 present 1 sweeps 2 contradictions 0\n"
+            "reads 1010 accepted 897 repeated 10 refused 103\n\
+             segments 1 present 1 sweeps 2 contradictions 0\n\
+             behind 907\n"
         );
     }
 
@@ -295,15 +310,16 @@ AAAN
             &other,
             b"AAAAAAAAAAAAAAACTGCAATCGTCAC",
         ];
-        let sheet = "segments 4 present 1 sweeps 2 contradictions 0\n";
-        for (reads, expected) in [
-            (1, "reads 1 accepted 1 repeated 0 refused 0\n"),
-            (2, "reads 2 accepted 1 repeated 1 refused 0\n"),
-            (3, "reads 3 accepted 1 repeated 1 refused 1\n"),
-            (4, "reads 4 accepted 1 repeated 2 refused 1\n"),
+        let sheet = "segments 4 present 1 sweeps 2 contradictions 0";
+        for (reads, expected, behind) in [
+            (1, "reads 1 accepted 1 repeated 0 refused 0", "behind 1"),
+            (2, "reads 2 accepted 1 repeated 1 refused 0", "behind 2"),
+            (3, "reads 3 accepted 1 repeated 1 refused 1", "behind 2"),
+            (4, "reads 4 accepted 1 repeated 2 refused 1", "behind 3"),
         ] {
             let input = lines[..reads].join(&b'\n');
-            assert_eq!(listing(Some(&card), &input), expected.to_string() + sheet);
+            let expected = format!("{expected}\n{sheet}\n{behind}\n");
+            assert_eq!(listing(Some(&card), &input), expected);
         }
     }
 
@@ -324,12 +340,14 @@ AAAN
         assert_eq!(
             listing(Some(&card), &lines[..2].join(&b'\n')),
             "reads 2 accepted 2 repeated 0 refused 0\n\
-             segments 4 present 1 sweeps 2 contradictions 1\n"
+             segments 4 present 1 sweeps 2 contradictions 1\n\
+             behind 2\n"
         );
         assert_eq!(
             listing(Some(&card), &lines.join(&b'\n')),
             "reads 3 accepted 2 repeated 1 refused 0\n\
-             segments 4 present 1 sweeps 2 contradictions 0\n"
+             segments 4 present 1 sweeps 2 contradictions 0\n\
+             behind 3\n"
         );
     }
 
@@ -344,7 +362,8 @@ AAAN
         assert_eq!(
             listing(Some(&card), &input),
             "reads 6 accepted 3 repeated 1 refused 2\n\
-             segments 4 present 3 sweeps 3 contradictions 0\n"
+             segments 4 present 3 sweeps 3 contradictions 0\n\
+             behind 4\n"
         );
     }
 }

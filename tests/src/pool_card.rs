@@ -95,11 +95,9 @@ impl Handed<'_> {
         n_bases_of(self.l, self.r)
     }
 
-    /// "a record is seed and payload, 4 + L bytes", and document 02, Item 5: "A record
-    /// gains a state byte after its payload" and "Records are now 5 + L bytes in
-    /// question 14 and shelving's 16."
+    /// How many bytes a record has.
     pub fn record_bytes(&self) -> usize {
-        5 + usize::from(self.l)
+        record_bytes_of(self.l)
     }
 }
 
@@ -118,6 +116,13 @@ pub fn k_of(f: u32, l: u8) -> usize {
 /// "The strand length is n = 4 times (4 + L + R) bases."
 pub fn n_bases_of(l: u8, r: u8) -> usize {
     4 * (4 + usize::from(l) + usize::from(r))
+}
+
+/// "a record is seed and payload, 4 + L bytes", and in document 02 it gains a state byte
+/// (Item 5) and a four-byte count (Item 6): "Records are 9 + L bytes, also for question
+/// 14 and shelving's 16."
+pub fn record_bytes_of(l: u8) -> usize {
+    9 + usize::from(l)
 }
 
 /// "the degree plan, D weights of four bytes; the first is the weight of degree
@@ -346,6 +351,14 @@ mod tests {
         assert_eq!(read_card(&card), Err(Refusal(4)));
         card[20] = 255;
         assert!(read_card(&card).is_ok());
+    }
+
+    /// Document 02, Item 6: "Records are 9 + L bytes".
+    #[test]
+    fn length_of_a_record() {
+        assert_eq!(record_bytes_of(1), 10);
+        assert_eq!(record_bytes_of(64), 73);
+        assert_eq!(read_card(&P).unwrap().handed(&P).record_bytes(), 10);
     }
 
     #[test]

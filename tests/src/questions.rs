@@ -117,7 +117,7 @@ pub fn question_13(outcome: Outcome) -> bool {
 }
 
 /// "Shelving: count times (4+L) within the shelf? 14." The same of restoring. Document
-/// 02, Item 5: "Records are now 5 + L bytes in question 14 and shelving's 16."
+/// 02, Item 6: "Records are 9 + L bytes, also for question 14 and shelving's 16."
 pub fn question_14(count: usize, record_length: usize, shelf_length: usize) -> bool {
     count as u128 * record_length as u128 <= shelf_length as u128
 }
@@ -132,13 +132,24 @@ pub fn question_15(first: Option<&Record>, payload: &[u8], state: State) -> bool
     }
 }
 
-/// "If the seed is new, space for a record? 16", a record of 5 + L bytes as in 14.
+/// Document 02, Item 6: "A repeat or replacement on a record whose count is
+/// 4,294,967,295 is refused as 20, after question 15." A read whose seed stands there is
+/// one of the two, once 15 has said yes.
+pub fn question_20(first: Option<&Record>) -> bool {
+    match first {
+        None => true,
+        Some(there) => there.behind != 4_294_967_295,
+    }
+}
+
+/// "If the seed is new, space for a record? 16", a record of 9 + L bytes as in 14.
 pub fn question_16_shelf(count: usize, record_length: usize, shelf_length: usize) -> bool {
     (count as u128 + 1) * record_length as u128 <= shelf_length as u128
 }
 
 /// "Then, in the C form alone: buffer at least 4 + L bytes? 16" Seed and payload go
-/// there, and no state: document 02, Item 5, changes "shelving's 16" alone.
+/// there, no state and no count: document 02, Items 5 and 6, changes "shelving's 16"
+/// alone.
 pub fn question_16_c_form(buffer_length: usize, l: u8) -> bool {
     buffer_length >= 4 + usize::from(l)
 }
@@ -340,6 +351,7 @@ mod tests {
                 seed: 1,
                 payload: &[3, 4],
                 state: there,
+                behind: 1,
             };
             assert!(question_15(Some(&record), &[3, 4], read));
             for payload in [[3, 5], [2, 4], [0, 0]] {
@@ -353,14 +365,41 @@ mod tests {
         assert!(question_15(None, &[3, 4], Mended));
     }
 
-    /// Records of 5 + L bytes: for L = 1 six of them, one byte less is too few.
+    /// One below the largest count is the last that takes a read more, whatever else
+    /// stands in the record.
+    #[test]
+    fn question_20_edges() {
+        for state in [State::Clean, State::Mended] {
+            for (behind, yes) in [
+                (0, true),
+                (1, true),
+                (0x7FFF_FFFF, true),
+                (0x8000_0000, true),
+                (0x00FF_FFFF, true),
+                (0xFFFF_FF00, true),
+                (4_294_967_294, true),
+                (4_294_967_295, false),
+            ] {
+                let record = Record {
+                    seed: 1,
+                    payload: &[3, 4],
+                    state,
+                    behind,
+                };
+                assert_eq!(question_20(Some(&record)), yes, "{behind}");
+            }
+        }
+        assert!(question_20(None));
+    }
+
+    /// Records of 9 + L bytes: for L = 1 ten of them, one byte less is too few.
     #[test]
     fn space_for_records() {
         for count in [1, 2, 3, 1000] {
-            assert!(question_14(count, 6, 6 * count));
-            assert!(!question_14(count, 6, 6 * count - 1));
-            assert!(question_16_shelf(count - 1, 6, 6 * count));
-            assert!(!question_16_shelf(count - 1, 6, 6 * count - 1));
+            assert!(question_14(count, 10, 10 * count));
+            assert!(!question_14(count, 10, 10 * count - 1));
+            assert!(question_16_shelf(count - 1, 10, 10 * count));
+            assert!(!question_16_shelf(count - 1, 10, 10 * count - 1));
         }
         assert!(question_16_c_form(5, 1));
         assert!(!question_16_c_form(4, 1));
@@ -369,13 +408,13 @@ mod tests {
     /// Largest numbers do not wrap.
     #[test]
     fn large_numbers() {
-        assert!(!question_14(usize::MAX, 5, usize::MAX));
-        assert!(!question_14(usize::MAX, 68, 65_536));
-        assert!(question_14(0, 68, 0));
+        assert!(!question_14(usize::MAX, 10, usize::MAX));
+        assert!(!question_14(usize::MAX, 73, 65_536));
+        assert!(question_14(0, 73, 0));
         assert!(!question_7(usize::MAX, usize::MAX, 288));
         assert!(!question_7(1_000_001, usize::MAX, 288));
         assert!(question_7(1_000_000, 289_000_000, 288));
         assert!(!question_7(1_000_000, 288_999_999, 288));
-        assert!(!question_16_shelf(usize::MAX, 5, usize::MAX));
+        assert!(!question_16_shelf(usize::MAX, 10, usize::MAX));
     }
 }

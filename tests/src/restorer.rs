@@ -15,9 +15,10 @@ pub struct Restored {
 }
 
 /// "Restore: 14. No seed 0 on the shelf? 17. File at least K·L, marks at least
-/// K? 18. Then 8." and the sweeps. Document 02, Item 5: "Records are now 5 + L bytes in
-/// question 14". What it says of states is said of shelving; here seed and payload
-/// alone are looked at: "The restore guarantee covers these records".
+/// K? 18. Then 8." and the sweeps. Document 02, Item 6: "Records are 9 + L bytes, also
+/// for question 14". What document 02 says of states and counts is said of shelving and
+/// of the listing; here seed and payload alone are looked at: "The restore guarantee
+/// covers these records" (Item 5).
 ///
 /// "The lent list for segment numbers is the only memory left free, and only in
 /// its first D places." Here only the list's length is asked for (question 8);
@@ -127,20 +128,21 @@ mod tests {
         weights: &P_WEIGHTS,
     };
 
-    /// A shelf of these records, all of them with this state byte.
-    fn shelf_of_state(state: u8, records: &[(u32, &[u8])]) -> Vec<u8> {
+    /// A shelf of these records, all of them with this state byte and this count.
+    fn shelf_with(state: u8, behind: u32, records: &[(u32, &[u8])]) -> Vec<u8> {
         let mut shelf = Vec::new();
         for (seed, payload) in records {
             shelf.extend_from_slice(&seed.to_be_bytes());
             shelf.extend_from_slice(payload);
             shelf.push(state);
+            shelf.extend_from_slice(&behind.to_be_bytes());
         }
         shelf
     }
 
-    /// A shelf of these records, clean.
+    /// A shelf of these records, clean, of one read each.
     fn shelf_of(records: &[(u32, &[u8])]) -> Vec<u8> {
-        shelf_of_state(0, records)
+        shelf_with(0, 1, records)
     }
 
     /// Bench example: "Reads of seeds 2, 1, 3 in that order: file 00 27 4E E4,
@@ -165,39 +167,47 @@ mod tests {
         assert_eq!(list[2], 7);
     }
 
-    /// Document 02, Item 5, gives the state byte no meaning for a restore: the bench
-    /// example with every state byte, one for all records or another one for each.
+    /// Document 02, Items 5 and 6, give state byte and count no meaning for a restore: the
+    /// bench example with every state byte and with counts of every kind, one for all
+    /// records or another one for each.
     #[test]
-    fn states_are_not_looked_at() {
+    fn states_and_counts_are_not_looked_at() {
         let records: [(u32, &[u8]); 3] = [(2, &[0x69]), (1, &[0xE4]), (3, &[0x27])];
+        let counts = [0, 1, 2, 0xFF, 0x100, 0x0101_0101, u32::MAX - 1, u32::MAX];
         for state in 0..=255u8 {
-            let mut mixed = shelf_of_state(state, &records);
-            (mixed[5], mixed[11]) = (state ^ 1, state.wrapping_mul(3));
-            for shelf in [shelf_of_state(state, &records), mixed] {
-                let (mut file, mut marks) = ([0xAB; 5], [0xCD; 5]);
-                let answer = restore(&P, &shelf, 3, &mut file, &mut marks, &mut [0; 2]).unwrap();
-                assert_eq!((answer.present, answer.sweeps), (3, 3));
-                assert_eq!(answer.contradictions, 0);
-                assert_eq!(file, [0x00, 0x27, 0x4E, 0xE4, 0xAB]);
-                assert_eq!(marks, [0, 1, 1, 1, 0xCD]);
+            for behind in counts {
+                let mut mixed = shelf_with(state, behind, &records);
+                (mixed[5], mixed[15]) = (state ^ 1, state.wrapping_mul(3));
+                (mixed[9], mixed[16]) = (mixed[9] ^ 1, mixed[16] ^ 0x80);
+                for shelf in [shelf_with(state, behind, &records), mixed] {
+                    let (mut file, mut marks) = ([0xAB; 5], [0xCD; 5]);
+                    let answer =
+                        restore(&P, &shelf, 3, &mut file, &mut marks, &mut [0; 2]).unwrap();
+                    assert_eq!((answer.present, answer.sweeps), (3, 3));
+                    assert_eq!(answer.contradictions, 0);
+                    assert_eq!(file, [0x00, 0x27, 0x4E, 0xE4, 0xAB]);
+                    assert_eq!(marks, [0, 1, 1, 1, 0xCD]);
+                }
+                // A seed 0 is one in a record of any state and count, and neither a
+                // state of 0 nor a count of 0 is a seed.
+                let seed_0 = shelf_with(state, behind, &[(1, &[0xE4]), (0, &[0xE4])]);
+                let answer = restore(&P, &seed_0, 2, &mut [0; 4], &mut [0; 4], &mut [0; 2]);
+                assert_eq!(answer, Err(Refusal(17)));
             }
-            // A seed 0 is one in a record of any state, and a state of 0 is no seed.
-            let seed_0 = shelf_of_state(state, &[(1, &[0xE4]), (0, &[0xE4])]);
-            let answer = restore(&P, &seed_0, 2, &mut [0; 4], &mut [0; 4], &mut [0; 2]);
-            assert_eq!(answer, Err(Refusal(17)));
         }
     }
 
-    /// "Records are now 5 + L bytes in question 14": 6 of them for each record here.
+    /// "Records are 9 + L bytes, also for question 14": 10 of them for each record here.
     #[test]
     fn records_within_the_shelf() {
         let shelf = shelf_of(&[(2, &[0x69]), (1, &[0xE4]), (3, &[0x27])]);
-        for length in 0..=18 {
+        assert_eq!(shelf.len(), 30);
+        for length in 0..=30 {
             for count in 0..=4 {
                 let lent = &shelf[..length];
                 let answer = restore(&P, lent, count, &mut [0; 4], &mut [0; 4], &mut [0; 2]);
                 let refused = answer == Err(Refusal(14));
-                assert_eq!(refused, count * 6 > length, "{count} {length}");
+                assert_eq!(refused, count * 10 > length, "{count} {length}");
                 assert!(refused || answer.is_ok());
             }
         }
@@ -402,6 +412,7 @@ mod tests {
                 shelf.extend_from_slice(&seed.to_be_bytes());
                 shelf.push(value);
                 shelf.push(next(3) as u8); // the state, whatever it is
+                shelf.extend_from_slice(&next(3).to_be_bytes()); // and the count
                 droplets.push((set, value));
             }
 

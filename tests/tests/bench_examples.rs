@@ -1,7 +1,7 @@
 //! Every bench example of document 01, over the public calls alone, in its
 //! order; then the examples of document 02, Item 1, card P cut as in Item 2, its
-//! strands mended as in Item 3 and shelved as in Item 5, and with a fourth field as in
-//! Item 14.
+//! strands mended as in Item 3, shelved as in Item 5 and counted as in Item 6, and with a
+//! fourth field as in Item 14.
 
 use second::check_bytes_letters_screen::{
     check_bytes, check_sums, count_gc, letters_of_bytes, longest_run, strand_bytes,
@@ -39,9 +39,11 @@ AAAAAAAAAAAAAAACTGCAATCGTCAT
 AAAN
 ";
 
-const TWO_LINES: &str = "\
+/// Document 01's two lines, and the third one of document 02, Item 6.
+const THREE_LINES: &str = "\
 reads 5 accepted 3 repeated 1 refused 1
 segments 4 present 3 sweeps 3 contradictions 0
+behind 4
 ";
 
 /// "So F=4, L=1, R=2, K=4, m=15, lo=214, hi=1000, n=28."
@@ -189,10 +191,12 @@ fn reads_of_seeds_2_1_3() {
         assert_eq!(after, count + 1);
         count = after;
     }
-    // Document 02, Item 5: a state byte after each payload, 0 for clean.
-    let records = hex("00000002 69 00 / 00000001 E4 00 / 00000003 27 00");
-    assert_eq!(shelf[..18], records);
-    assert_eq!(shelf[18..], [0xFF; 82]);
+    // Document 02: a state byte after each payload, 0 for clean (Item 5), and the count
+    // after it, 1 when accepted (Item 6).
+    let records =
+        hex("00000002 69 00 00000001 / 00000001 E4 00 00000001 / 00000003 27 00 00000001");
+    assert_eq!(shelf[..30], records);
+    assert_eq!(shelf[30..], [0xFF; 70]);
     let mut file = [0xFF; 4];
     let mut marks = [0xFF; 4];
     let answer = restore(&p, &shelf, count, &mut file, &mut marks, &mut [0; 2]);
@@ -230,10 +234,11 @@ fn empty_shelf() {
 }
 
 /// "Under P these five lines .. print two lines" and "(AAAN is refused with 9.)"
+/// Document 02, Item 6: "The listing gains a third line".
 #[test]
 fn five_lines() {
     let card = card_p();
-    assert_eq!(listing(Some(&card), FIVE_LINES.as_bytes()), TWO_LINES);
+    assert_eq!(listing(Some(&card), FIVE_LINES.as_bytes()), THREE_LINES);
     assert_eq!(read_check(&handed(&card), b"AAAN"), Err(Refusal(9)));
     assert_eq!(
         shelve(&handed(&card), b"AAAN", &mut [0; 50], 0),
@@ -259,7 +264,7 @@ fn answer_at_m_3(seed: u32, strand: &str) -> Result<(), Refusal> {
         assert_eq!((droplet.seed, droplet.payload[0]), (seed, 0x27));
     });
     assert_eq!(
-        shelve(&handed, read, &mut [0; 6], 0),
+        shelve(&handed, read, &mut [0; 10], 0),
         answer.map(|()| Shelved::Accepted { count: 1 })
     );
     let mut printed = [b'?'; 29];
@@ -377,7 +382,7 @@ AAAAAAAAAAAAAAATAACTCGAACACA
 AAAAAAAAAAAAAAAATGCAATCGTCAT
 AAAN
 ";
-    assert_eq!(listing(Some(&card_p()), misread.as_bytes()), TWO_LINES);
+    assert_eq!(listing(Some(&card_p()), misread.as_bytes()), THREE_LINES);
 }
 
 /// Document 02, Item 5: "A clean read whose seed stands there as mended takes over
@@ -405,9 +410,63 @@ fn clean_beats_mended() {
         (mended, "00000001 E5 01", Err(Refusal(15)), "00000001 E5 01"),
         (clean, "00000002 69 01", Err(Refusal(16)), "00000002 69 01"),
     ] {
-        let mut shelf = hex(record);
+        let mut shelf = hex(&format!("{record} 00000007"));
         assert_eq!(shelve(&p, read, &mut shelf, 1), answer, "{record}");
-        assert_eq!(shelf, hex(after), "{record}");
+        // Item 6: "one more at each repeat or replacement".
+        let count = if answer.is_ok() {
+            "00000008"
+        } else {
+            "00000007"
+        };
+        assert_eq!(shelf, hex(&format!("{after} {count}")), "{record}");
+    }
+}
+
+/// Document 02, Item 6: "1 when accepted, one more at each repeat or replacement", and "A
+/// repeat or replacement on a record whose count is 4,294,967,295 is refused as 20, after
+/// question 15."
+#[test]
+fn read_counts() {
+    let card = card_p();
+    let p = handed(&card);
+    let clean: &[u8] = b"AAAAAAAAAAAAAAACTGCAATCGTCAT";
+    let mended: &[u8] = b"TAAAAAAAAAAAAAACTGCAATCGTCAT";
+    let accepted = Ok(Shelved::Accepted { count: 1 });
+    let replaced = Ok(Shelved::Replaced { count: 1 });
+    let repeat = Ok(Shelved::Repeat { count: 1 });
+    let mut shelf = hex("FFFFFFFF FF FF FFFFFFFF FF");
+    for (count, read, answer, record) in [
+        (0, mended, accepted, "00000001 E4 01 00000001"),
+        (1, mended, repeat, "00000001 E4 01 00000002"),
+        (1, clean, replaced, "00000001 E4 00 00000003"),
+        (1, mended, repeat, "00000001 E4 00 00000004"),
+        (1, clean, repeat, "00000001 E4 00 00000005"),
+    ] {
+        assert_eq!(shelve(&p, read, &mut shelf, count), answer);
+        assert_eq!(shelf, hex(&format!("{record} FF")));
+    }
+
+    let (fifteen, twenty) = (Err(Refusal(15)), Err(Refusal(20)));
+    for (read, record, answer, after) in [
+        (clean, "E4 00 FFFFFFFE", repeat, "E4 00 FFFFFFFF"),
+        (clean, "E5 01 FFFFFFFE", replaced, "E4 00 FFFFFFFF"),
+        (mended, "E4 07 FFFFFFFE", repeat, "E4 07 FFFFFFFF"),
+        (clean, "E4 00 FFFFFFFF", twenty, "E4 00 FFFFFFFF"),
+        (clean, "E4 01 FFFFFFFF", twenty, "E4 01 FFFFFFFF"),
+        (clean, "E5 01 FFFFFFFF", twenty, "E5 01 FFFFFFFF"),
+        (clean, "E5 07 FFFFFFFF", twenty, "E5 07 FFFFFFFF"),
+        (mended, "E4 00 FFFFFFFF", twenty, "E4 00 FFFFFFFF"),
+        (mended, "E4 01 FFFFFFFF", twenty, "E4 01 FFFFFFFF"),
+        (clean, "E5 00 FFFFFFFF", fifteen, "E5 00 FFFFFFFF"),
+        (mended, "E5 00 FFFFFFFF", fifteen, "E5 00 FFFFFFFF"),
+        (mended, "E5 01 FFFFFFFF", fifteen, "E5 01 FFFFFFFF"),
+        (clean, "E4 00 00000000", repeat, "E4 00 00000001"),
+        (clean, "E4 00 000000FF", repeat, "E4 00 00000100"),
+        (mended, "E4 00 00FFFFFF", repeat, "E4 00 01000000"),
+    ] {
+        let mut shelf = hex(&format!("00000001 {record}"));
+        assert_eq!(shelve(&p, read, &mut shelf, 1), answer, "{record}");
+        assert_eq!(shelf, hex(&format!("00000001 {after}")), "{record}");
     }
 }
 
@@ -417,7 +476,8 @@ fn clean_beats_mended() {
 fn restored_after_replacing() {
     let card = card_p();
     let p = handed(&card);
-    let mut shelf = hex("00000002 69 00 / 00000001 E5 01 / 00000003 27 00");
+    let mut shelf =
+        hex("00000002 69 00 00000001 / 00000001 E5 01 00000009 / 00000003 27 00 00000001");
     let restored = |shelf: &[u8]| {
         let (mut file, mut marks) = ([0xFF; 4], [0xFF; 4]);
         let sheet = restore(&p, shelf, 3, &mut file, &mut marks, &mut [0; 2]).unwrap();

@@ -235,6 +235,7 @@ impl Case {
             0 => {
                 self.note_restored(regions, after.answer, whole);
                 self.note_states(regions, after.answer);
+                self.note_counts(regions, after.answer);
             }
             17 => self.note_seed_0(regions),
             18 => {
@@ -266,9 +267,16 @@ impl Case {
             self.count > 1 && zeros == [self.count - 1],
             "17: the last record alone",
         );
-        let clean = |i: &usize| self.store[(i + 1) * record - 1] == 0;
+        let clean = |i: &usize| self.store[i * record + self.numbers.state_at()] == 0;
         regions.note_if(zeros.iter().all(clean), "17: clean records alone");
         regions.note_if(!zeros.iter().any(clean), "17: mended records alone");
+        let behind = |i: &usize| shelves::behind_of(&self.store[i * record..(i + 1) * record]);
+        for (count, region) in [
+            (0, "17: counts of 0 alone"),
+            (u32::MAX, "17: full counts alone"),
+        ] {
+            regions.note_if(zeros.iter().all(|i| behind(i) == count), region);
+        }
     }
 
     fn note_restored(&self, regions: &mut Regions, answer: [u64; 3], whole: usize) {
@@ -326,10 +334,8 @@ impl Case {
     /// Notes what states the records have, none of which is looked at. Where all have one, all that is present or contradicts
     /// comes of records with that one.
     fn note_states(&self, regions: &mut Regions, answer: [u64; 3]) {
-        let [present, _, contradictions] = answer;
-        let record = self.numbers.record();
-        let records = self.store.chunks_exact(record).take(self.count);
-        let states: Vec<u8> = records.map(|there| there[record - 1]).collect();
+        let state_at = self.numbers.state_at();
+        let states: Vec<u8> = self.records().map(|there| there[state_at]).collect();
         let Some(&first) = states.first() else {
             return;
         };
@@ -340,6 +346,34 @@ impl Case {
             255 => "of state 255",
             _ => "of another state",
         };
+        self.note_by(regions, answer, of);
+    }
+
+    /// The same of their counts.
+    fn note_counts(&self, regions: &mut Regions, answer: [u64; 3]) {
+        let counts: Vec<u32> = self.records().map(shelves::behind_of).collect();
+        let Some(&first) = counts.first() else {
+            return;
+        };
+        let of = match first {
+            _ if counts.iter().any(|&count| count != first) => "of different counts",
+            0 => "of count 0",
+            1 => "of count 1",
+            u32::MAX => "of a full count",
+            0xFFFF_FFFE => "of a count one below full",
+            _ => "of another count",
+        };
+        self.note_by(regions, answer, of);
+    }
+
+    fn records(&self) -> impl Iterator<Item = &[u8]> {
+        self.store
+            .chunks_exact(self.numbers.record())
+            .take(self.count)
+    }
+
+    /// Notes what was restored by records of some kind.
+    fn note_by(&self, regions: &mut Regions, [present, _, contradictions]: [u64; 3], of: &str) {
         regions.note_if(present > 0, &format!("present by records {of}"));
         regions.note_if(
             present == self.numbers.k() as u64,
@@ -361,6 +395,19 @@ const STATE_REGIONS: &[&str] = &[
     "contradictions by records of state 0", "contradictions by records of state 1", "contradictions by records of state 255",
     "contradictions by records of another state", "contradictions by records of different states",
     "17: clean records alone", "17: mended records alone",
+];
+
+#[rustfmt::skip]
+const COUNT_REGIONS: &[&str] = &[
+    "present by records of count 0", "present by records of count 1", "present by records of a full count",
+    "present by records of a count one below full", "present by records of another count", "present by records of different counts",
+    "all present by records of count 0", "all present by records of count 1", "all present by records of a full count",
+    "all present by records of a count one below full", "all present by records of another count",
+    "all present by records of different counts",
+    "contradictions by records of count 0", "contradictions by records of count 1", "contradictions by records of a full count",
+    "contradictions by records of a count one below full", "contradictions by records of another count",
+    "contradictions by records of different counts",
+    "17: counts of 0 alone", "17: full counts alone",
 ];
 
 #[rustfmt::skip]
@@ -400,12 +447,13 @@ fn any_shelf(random: &mut Random, numbers: &Numbers) -> (Vec<u8>, usize) {
             records[i] = records[random.below(i)].clone();
         }
         if random.once_in(changed_once_in) {
-            let place = random.between(4, record - 2);
+            let place = random.between(4, numbers.state_at() - 1);
             records[i][place] ^= 1 << random.below(8);
         }
     }
-    give_states(random, &mut records);
-    let past = random.one_of(&[0, 0, 1, record - 1, record, 2 * record + 1]);
+    give_states(random, numbers.state_at(), &mut records);
+    give_counts(random, &mut records);
+    let past = random.one_of(&[0, 0, 1, record - 4, record - 1, record, 2 * record + 1]);
     let mut store = records.concat();
     if random.once_in(4) {
         store.extend(vec![0; past]);
@@ -416,7 +464,7 @@ fn any_shelf(random: &mut Random, numbers: &Numbers) -> (Vec<u8>, usize) {
 }
 
 /// Gives each record a state byte: all of them one, or each its own.
-fn give_states(random: &mut Random, records: &mut [Vec<u8>]) {
+fn give_states(random: &mut Random, state_at: usize, records: &mut [Vec<u8>]) {
     let of_all = shelves::any_state(random);
     let mixed = random.once_in(2);
     for record in records {
@@ -425,11 +473,25 @@ fn give_states(random: &mut Random, records: &mut [Vec<u8>]) {
         } else {
             of_all
         };
-        *record.last_mut().expect("a record has bytes") = state;
+        record[state_at] = state;
     }
 }
 
-/// Records of `count` seeds over one random file, clean. In falling order of degree, peeling takes many sweeps.
+/// Gives each record a count: all of them one, or each its own.
+fn give_counts(random: &mut Random, records: &mut [Vec<u8>]) {
+    let of_all = shelves::any_behind(random);
+    let mixed = random.once_in(2);
+    for record in records {
+        let behind = if mixed {
+            shelves::any_behind(random)
+        } else {
+            of_all
+        };
+        shelves::set_behind(record, behind);
+    }
+}
+
+/// Records of `count` seeds over one random file, clean, of one read each. In falling order of degree, peeling takes many sweeps.
 fn droplets(random: &mut Random, numbers: &Numbers, count: usize) -> Vec<Vec<u8>> {
     let (l, k) = (usize::from(numbers.l), numbers.k());
     let file = random.bytes(k * l);
@@ -444,7 +506,7 @@ fn droplets(random: &mut Random, numbers: &Numbers, count: usize) -> Vec<Vec<u8>
             &file,
             numbers.l,
         ));
-        record.push(0);
+        record.extend([0, 0, 0, 0, 1]);
         record
     };
     seeds.iter().map(record_of).collect()
@@ -468,7 +530,7 @@ fn case(random: &mut Random, regions: &mut Regions) -> Result<(), String> {
 }
 
 /// A record of degree 1 for each of the 131,072 segments but `missing`, where degrees are 1 and 1,024 by halves: an even first
-/// draw gives degree 1, and the second draw its segment. Their states are any.
+/// draw gives degree 1, and the second draw its segment. Their states and counts are any.
 fn records_of_degree_1(l: usize, file: &[u8], missing: usize) -> Vec<u8> {
     let mut here = vec![false; cards::K_MOST];
     here[missing] = true;
@@ -484,6 +546,7 @@ fn records_of_degree_1(l: usize, file: &[u8], missing: usize) -> Vec<u8> {
             store.extend(seed.to_be_bytes());
             store.extend(&file[segment * l..(segment + 1) * l]);
             store.push(seed as u8);
+            store.extend(seed.wrapping_mul(0x9E37_79B1).to_be_bytes());
         }
         if left == 0 {
             break;
@@ -507,10 +570,10 @@ fn restore_largest(l: usize) {
     for (seed, set) in seeds.iter().zip(&sets) {
         store.extend(seed.to_be_bytes());
         store.extend(payload(set, &file, numbers.l));
-        store.push(0);
+        store.extend([0, 0, 0, 0, 1]);
     }
-    // The last byte of the last payload, before its state.
-    *store.iter_mut().nth_back(1).expect("there are records") ^= 1;
+    // The last byte of the last payload, before its state and count.
+    *store.iter_mut().nth_back(5).expect("there are records") ^= 1;
     store.extend(records_of_degree_1(
         l,
         &file,
@@ -536,9 +599,8 @@ fn restore_largest(l: usize) {
 }
 
 /// Records that fill segments over several sweeps, one that contradicts, and one of a seed that stands there before: with
-/// each state byte for all of them, and with each for one of them, the sheet is the same.
-#[test]
-fn restore_with_every_state() {
+/// each of these state bytes and counts for all of them, and with each for one of them, the sheet is the same.
+fn restore_the_same(states_and_counts: impl Iterator<Item = (u8, u32)>) {
     let random = &mut Random::of_case("restore_with_every_state", 0);
     let mut numbers = cards::accepted(random, 3, 12, 4);
     numbers.weights = peeling_weights(random, 4);
@@ -546,11 +608,13 @@ fn restore_with_every_state() {
     records[31][5] ^= 0x40;
     records[35] = records[2].clone();
     let mut first: Option<After> = None;
-    for state in 0..=255 {
+    for (state, behind) in states_and_counts {
         for one in [None, Some(0), Some(31), Some(35), Some(39)] {
             for (i, record) in records.iter_mut().enumerate() {
                 let is_one = one.is_none_or(|one| one == i);
-                *record.last_mut().expect("a record has bytes") = if is_one { state } else { 0 };
+                let (state, behind) = if is_one { (state, behind) } else { (0, 1) };
+                record[numbers.state_at()] = state;
+                shelves::set_behind(record, behind);
             }
             let case = Case {
                 numbers: numbers.clone(),
@@ -577,6 +641,19 @@ fn restore_with_every_state() {
 }
 
 #[test]
+fn restore_with_every_state() {
+    restore_the_same((0..=255).map(|state| (state, 1)));
+}
+
+#[test]
+fn restore_with_counts_of_every_kind() {
+    let counts = [0, 1, 0xFF, 0x0001_0000, 0x8000_0000, u32::MAX - 1, u32::MAX];
+    let clean = counts.iter().map(|&behind| (0, behind));
+    let not_clean = counts.iter().map(|&behind| (behind as u8 | 1, behind));
+    restore_the_same(clean.chain(not_clean));
+}
+
+#[test]
 fn restore_largest_by_1() {
     restore_largest(1);
 }
@@ -597,6 +674,7 @@ fn restore() {
             shelves::REGIONS,
             REGIONS,
             STATE_REGIONS,
+            COUNT_REGIONS,
         ],
         case,
     );

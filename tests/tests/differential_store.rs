@@ -13,6 +13,7 @@ use differential::wrong_bytes;
 use second::check_bytes_letters_screen::letters_of_bytes;
 use second::clean_beats_mended::records_after_a_list;
 use second::{Droplet, Shelved};
+use std::collections::HashMap;
 
 #[cfg(capi_missing)]
 compile_error!("target/staticlib/libcapi.a is missing: `rt staticlib capi` makes it");
@@ -190,7 +191,7 @@ impl Case {
             regions.note_if(!too_many, "27: 14 fine");
         }
         match after.number {
-            0 | 15 | 16 => {
+            0 | 15 | 16 | 20 => {
                 let droplet = self.droplet();
                 Met::of(self, &droplet).note(regions, after);
             }
@@ -206,8 +207,12 @@ impl Case {
         if let Some(there) = records.find(|there| there[..4] == self.read.printed[..4]) {
             let is_clean = self.read.letters == letters_of_bytes(&self.read.printed);
             let read = if is_clean { "clean" } else { "misread" };
-            let there = state_of(there[record - 1]);
-            regions.note(&format!("{number}: {read}, its record {there}"));
+            let state = state_of(there[self.numbers.state_at()]);
+            regions.note(&format!("{number}: {read}, its record {state}"));
+            regions.note_if(
+                has_full_count(there),
+                &format!("{number}: its record's count full"),
+            );
         }
     }
 }
@@ -231,6 +236,11 @@ fn state_of(byte: u8) -> &'static str {
         0 => "clean",
         _ => "mended",
     }
+}
+
+/// Whether no read more can stand behind a record.
+fn has_full_count(record: &[u8]) -> bool {
+    shelves::behind_of(record) == u32::MAX
 }
 
 /// What a legal read meets on the shelf.
@@ -267,7 +277,7 @@ impl<'a> Met<'a> {
     }
 
     fn state_at(&self) -> usize {
-        self.case.numbers.record() - 1
+        self.case.numbers.state_at()
     }
 
     /// How the read and the first record of its seed stand to each other: "clean over mended".
@@ -280,23 +290,39 @@ impl<'a> Met<'a> {
     fn note(&self, regions: &mut Regions, after: &After) {
         match (after.number, after.answer[0]) {
             (0, 0) => self.note_accepted(regions),
-            (0, 1) => self.note_there(regions, "repeat"),
+            (0, 1) => {
+                self.note_there(regions, "repeat");
+                self.note_repeat(after);
+            }
             (0, _) => {
                 self.note_there(regions, "replaced");
                 self.note_replaced(regions, after);
             }
             (15, _) => self.note_there(regions, "15"),
-            _ => {
-                let (record, length) = (self.case.numbers.record(), self.case.store.len());
-                regions.note_if(self.mended > 0, "16: mended");
-                regions.note_if(self.mended == 0, "16: clean");
-                regions.note_if(
-                    length % record == record - 1,
-                    "16: a byte short, space but for the state",
-                );
-                regions.note_if(length % record == 0, "16: no byte left");
-            }
+            (20, _) => self.note_there(regions, "20"),
+            _ => self.note_16(regions),
         }
+        if after.number != 0 {
+            assert_eq!(after.store, self.case.store, "a refusal changes nothing");
+        }
+    }
+
+    fn note_16(&self, regions: &mut Regions) {
+        let (record, length) = (self.case.numbers.record(), self.case.store.len());
+        regions.note_if(self.mended > 0, "16: mended");
+        regions.note_if(self.mended == 0, "16: clean");
+        regions.note_if(length % record == record - 1, "16: a byte short");
+        regions.note_if(length % record == record - 4, "16: space but for the count");
+        regions.note_if(
+            length % record == record - 5,
+            "16: space but for state and count",
+        );
+        regions.note_if(length % record == 0, "16: no byte left");
+        let on_shelf = &self.records[..self.case.count];
+        regions.note_if(
+            on_shelf.iter().any(|there| has_full_count(there)),
+            "16: a stranger's count full",
+        );
     }
 
     fn note_accepted(&self, regions: &mut Regions) {
@@ -318,6 +344,25 @@ impl<'a> Met<'a> {
         regions.note_if(
             past.iter().any(|there| there[..4] == self.seed),
             "its seed past the count",
+        );
+        regions.note_if(
+            past.iter()
+                .any(|there| there[..4] == self.seed && has_full_count(there)),
+            "its seed past the count, full",
+        );
+        regions.note_if(
+            self.records[..case.count]
+                .iter()
+                .any(|there| has_full_count(there)),
+            "accepted, a stranger's count full",
+        );
+        regions.note_if(
+            shelves::behind_of(past[0]) == 1,
+            "accepted where the count was lent as 1",
+        );
+        regions.note_if(
+            has_full_count(past[0]),
+            "accepted where the count was lent full",
         );
         regions.note_if(
             past[0][..self.state_at()] == [&self.seed, self.payload].concat(),
@@ -358,6 +403,9 @@ impl<'a> Met<'a> {
         if let Some(part) = self.mended_in {
             regions.note(&format!("{over}, mended in the {part} alone"));
         }
+        let count = shelves::kind_of_count(shelves::behind_of(self.records[place]));
+        regions.note(&format!("{over}, {count}"));
+        regions.note(&format!("{over}, {same}, {count}"));
         self.note_places(regions, &over, place);
         self.note_neighbours(regions, &over, place);
         self.note_differing(regions, &over, place);
@@ -380,9 +428,24 @@ impl<'a> Met<'a> {
         for &later in &self.of_seed[1..] {
             let state = state_of(self.records[later][self.state_at()]);
             let payload = self.payload_of(later);
+            let full = if has_full_count(self.records[later]) {
+                "full"
+            } else {
+                "not full"
+            };
             regions.note(&format!("{over}, a later one {state}"));
             regions.note(&format!("{over}, a later one with the {payload}"));
+            regions.note(&format!("{over}, a later one {full}"));
         }
+        let mut strangers = (0..count).filter(|stranger| !self.of_seed.contains(stranger));
+        regions.note_if(
+            strangers.any(|stranger| has_full_count(self.records[stranger])),
+            &format!("{over}, a stranger's count full"),
+        );
+        regions.note_if(
+            self.case.store.len() > count * self.case.numbers.record(),
+            &format!("{over}, bytes past the records"),
+        );
     }
 
     /// Notes bytes beside the state byte that say another thing, if they were taken for it.
@@ -391,11 +454,16 @@ impl<'a> Met<'a> {
         let record = self.records[place];
         let beyond = (place + 1) * self.case.numbers.record();
         let state_is_0 = is_0(&record[self.state_at()]);
-        let payload_says_other = is_0(&record[self.state_at() - 1]) != state_is_0;
-        regions.note_if(
-            payload_says_other,
-            &format!("{over}, last payload byte not so"),
-        );
+        for (place, what) in [
+            (self.state_at() - 1, "last payload byte"),
+            (self.state_at() + 1, "first byte of the count"),
+            (record.len() - 1, "last byte of the count"),
+        ] {
+            regions.note_if(
+                is_0(&record[place]) != state_is_0,
+                &format!("{over}, {what} not so"),
+            );
+        }
         let last = place + 1 == self.case.count;
         match self.case.store.get(beyond) {
             Some(byte) if last && is_0(byte) != state_is_0 => {
@@ -422,13 +490,34 @@ impl<'a> Met<'a> {
         );
     }
 
-    /// Holds what a replacement leaves to document 02's words, beside the comparison: payload and state of the first record of
-    /// the seed are the read's, and all other bytes are as they were.
+    /// The shelf with one read more behind the first record of the seed, and all other bytes as they were.
+    fn with_one_more(&self) -> Vec<u8> {
+        let place = self.of_seed[0];
+        let mut store = self.case.store.clone();
+        let behind = shelves::behind_of(self.records[place]) + 1;
+        let end = (place + 1) * self.case.numbers.record();
+        store[end - 4..end].copy_from_slice(&behind.to_be_bytes());
+        store
+    }
+
+    /// Holds what a repeat leaves to document 02's words, beside the comparison: the count of the first record of the seed is
+    /// one more, and all other bytes are as they were, its state byte too.
+    fn note_repeat(&self, after: &After) {
+        let kept = self.with_one_more();
+        assert_eq!(
+            after.store, kept,
+            "a repeat changes its record's count alone"
+        );
+        assert_eq!(after.answer[1], self.case.count as u64);
+    }
+
+    /// The same of a replacement: payload and state of the first record of the seed are the read's, its count is one more, and
+    /// all other bytes are as they were.
     fn note_replaced(&self, regions: &mut Regions, after: &After) {
         let (case, record) = (self.case, self.case.numbers.record());
-        let mut kept = case.store.clone();
+        let mut kept = self.with_one_more();
         let start = self.of_seed[0] * record;
-        let taken_over = &mut kept[start + 4..start + record];
+        let taken_over = &mut kept[start + 4..start + record - 4];
         taken_over.copy_from_slice(&[self.payload, &[0]].concat());
         assert_eq!(after.store, kept, "a replacement changes its record alone");
         assert_eq!(after.answer[1], case.count as u64);
@@ -449,14 +538,19 @@ const REGIONS: &[&str] = &[
     "accepted, clean, where the state was lent as another byte", "accepted, mended, where the state was lent as 0",
     "accepted, mended, where the state was lent as 1", "accepted, mended, where the state was lent as another byte",
     "accepted, mended in the seed alone", "accepted, mended in the payload alone", "accepted, mended in the check bytes alone",
-    "16: mended", "16: clean", "16: a byte short, space but for the state", "16: no byte left",
+    "16: mended", "16: clean", "16: a byte short", "16: space but for the count", "16: space but for state and count",
+    "16: no byte left", "16: a stranger's count full",
     "shelf NULL", "read NULL", "27: 14 too", "27: 14 fine",
     "3: clean, its record mended", "4: clean, its record mended", "27: clean, its record mended", "14: clean, its record mended",
     "9: misread, its record mended", "10: misread, its record mended", "11: misread, its record mended",
     "12: clean, its record mended", "13: clean, its record mended", "13: clean, its record clean", "13: misread, its record mended",
+    "3: its record's count full", "4: its record's count full", "27: its record's count full", "14: its record's count full",
+    "9: its record's count full", "10: its record's count full", "11: its record's count full", "12: its record's count full",
+    "13: its record's count full", "its seed past the count, full", "accepted, a stranger's count full",
+    "accepted where the count was lent as 1", "accepted where the count was lent full",
 ];
 
-/// What is compared with the first record of its seed. A clean read of a mended one is never a repeat or refused.
+/// What is compared with the first record of its seed. A clean read of a mended one is never a repeat, nor refused under 15.
 #[rustfmt::skip]
 const COMPARED_REGIONS: &[&str] = &[
     "replaced", "replaced: L 1", "replaced: L 64", "replaced: R 2", "replaced: R 4",
@@ -482,12 +576,39 @@ const COMPARED_REGIONS: &[&str] = &[
     "15: mended over mended, other payload, state of another byte",
     "15: mended over clean, bytes mended 1", "15: mended over clean, bytes mended 2",
     "15: mended over mended, bytes mended 1", "15: mended over mended, bytes mended 2",
+    "answer 20", "20: clean over clean, same payload, state 0", "20: mended over clean, same payload, state 0",
+    "20: clean over mended, same payload, state 1", "20: clean over mended, other payload, state 1",
+    "20: clean over mended, same payload, state 255", "20: clean over mended, other payload, state 255",
+    "20: mended over mended, same payload, state 1", "20: mended over mended, same payload, state 255",
+    "20: mended over mended, bytes mended 1", "20: mended over mended, bytes mended 2",
 ];
+
+/// Each way of a read to go behind a record, with each count that it may stand at; the last of these is the largest that takes
+/// one read more.
+#[rustfmt::skip]
+const COUNTED_WAYS: &[&str] = &[
+    "replaced: clean over mended, same payload", "replaced: clean over mended, other payload",
+    "repeat: clean over clean", "repeat: mended over clean", "repeat: mended over mended",
+];
+
+#[rustfmt::skip]
+const COUNTS: &[&str] = &[
+    "count 0", "count 1", "count 000000FF", "count 0000FFFF", "count 00FFFFFF", "count 7FFFFFFF", "another count that carries",
+    "another count", "count one below full",
+];
+
+/// 15 comes before 20: another payload is refused under 15 at any count, a full one too.
+#[rustfmt::skip]
+const FIFTEEN_WAYS: &[&str] = &["15: clean over clean", "15: mended over clean", "15: mended over mended"];
+
+#[rustfmt::skip]
+const COUNTS_OF_15: &[&str] = &["count 0", "count one below full", "count full"];
 
 /// Each of these ways of a mended read and a record of its seed to meet, with what was mended in one part alone.
 #[rustfmt::skip]
 const MENDED_WAYS: &[&str] = &[
     "repeat: mended over clean", "repeat: mended over mended", "15: mended over clean", "15: mended over mended",
+    "20: mended over clean", "20: mended over mended",
 ];
 
 #[rustfmt::skip]
@@ -498,14 +619,20 @@ const PARTS: &[&str] = &["mended in the seed alone", "mended in the payload alon
 const WAYS: &[&str] = &[
     "replaced: clean over mended", "repeat: clean over clean", "repeat: mended over clean", "repeat: mended over mended",
     "15: clean over clean", "15: mended over clean", "15: mended over mended",
+    "20: clean over clean", "20: mended over clean", "20: mended over mended", "20: clean over mended",
 ];
 
 #[rustfmt::skip]
 const PLACES: &[&str] = &[
     "full shelf", "the first of them", "the last of them", "after 100 records",
     "a later one clean", "a later one mended", "a later one with the same payload", "a later one with the other payload",
+    "a later one full", "a later one not full", "a stranger's count full", "bytes past the records",
     "last payload byte not so", "the byte beyond the last record not so", "no byte beyond the last record",
 ];
+
+/// Counts whose bytes beside the state byte, or at their end, say another thing than it does. A full one says mended.
+#[rustfmt::skip]
+const COUNT_BYTES: &[&str] = &["first byte of the count not so", "last byte of the count not so"];
 
 /// Where payloads differ.
 #[rustfmt::skip]
@@ -523,11 +650,29 @@ fn regions_of_ways() -> Vec<String> {
         for place in PLACES {
             regions.push(format!("{way}, {place}"));
         }
-        for place in DIFFERING.iter().filter(|_| !way.starts_with("repeat")) {
+        for place in DIFFERING.iter().filter(|_| may_differ(way)) {
             regions.push(format!("{way}, {place}"));
+        }
+        for bytes in COUNT_BYTES.iter().filter(|_| !way.starts_with("20")) {
+            regions.push(format!("{way}, {bytes}"));
+        }
+    }
+    for way in COUNTED_WAYS {
+        for count in COUNTS {
+            regions.push(format!("{way}, {count}"));
+        }
+    }
+    for way in FIFTEEN_WAYS {
+        for count in COUNTS_OF_15 {
+            regions.push(format!("{way}, {count}"));
         }
     }
     regions
+}
+
+/// Whether the payloads may differ: never at a repeat, and under 20 only where the read would take over.
+fn may_differ(way: &str) -> bool {
+    way.starts_with("replaced") || way.starts_with("15") || way == "20: clean over mended"
 }
 
 /// What lists of calls meet that single calls do not show.
@@ -538,9 +683,12 @@ const LIST_REGIONS: &[&str] = &[
     "a list: replaced, then repeat, clean", "a list: replaced, then repeat, mended", "a list: replaced, then 15, clean",
     "a list: replaced, then 15, mended", "a list: replaced, then the mended one from before is 15",
     "a list: records clean and mended at its end", "a list: refused under 16 and replaced",
+    "a list: counts of 1 and more at its end", "a list: a count of 5 and more", "a list: reads refused under 15 and behind a record",
+    "a list: no read answered", "a list: all reads answered, and more than there are records",
 ];
 
-/// A record near the one that is offered: its seed, its payload, or neither; or one that differs from it by little. Any state.
+/// A record near the one that is offered: its seed, its payload, or neither; or one that differs from it by little. Any state
+/// and count.
 fn any_record(random: &mut Random, (seed, payload): &(u32, Vec<u8>)) -> Vec<u8> {
     let near = seed ^ 1 << random.below(32);
     let other = reads::any_seed(random);
@@ -553,7 +701,7 @@ fn any_record(random: &mut Random, (seed, payload): &(u32, Vec<u8>)) -> Vec<u8> 
     record_of(random, seed, payload)
 }
 
-/// A record of this seed, with the payload, one that differs from it in a bit, or any. Any state.
+/// A record of this seed, with the payload, one that differs from it in a bit, or any. Any state and count.
 fn record_of(random: &mut Random, seed: u32, payload: &[u8]) -> Vec<u8> {
     let mut bytes = payload.to_vec();
     let anywhere = random.below(bytes.len());
@@ -566,6 +714,7 @@ fn record_of(random: &mut Random, seed: u32, payload: &[u8]) -> Vec<u8> {
     let mut record = seed.to_be_bytes().to_vec();
     record.extend(bytes);
     record.push(shelves::any_state(random));
+    record.extend(shelves::any_behind(random).to_be_bytes());
     record
 }
 
@@ -591,12 +740,16 @@ fn any_shelf(random: &mut Random, numbers: &Numbers, offered: &(u32, Vec<u8>)) -
         let anywhere = random.below(count);
         let place = random.one_of(&[anywhere, count - 1]);
         records[place] = record_of(random, offered.0, &offered.1);
+        if many && random.once_in(3) {
+            shelves::set_behind(&mut records[place], u32::MAX);
+        }
     }
     for _ in 0..random.one_of(&[0, 0, 1, 1, 2]) {
         records.push(any_record(random, offered));
     }
     let mut store = records.concat();
-    let slack = random.one_of(&[0, 0, 1, numbers.record() - 1]);
+    let record = numbers.record();
+    let slack = random.one_of(&[0, 0, 0, 1, record - 1, record - 1, record - 4, record - 5]);
     if random.once_in(3) {
         store.extend(vec![0; slack]);
     } else {
@@ -685,7 +838,7 @@ impl List {
         if after.number == 0 {
             self.count = after.answer[1] as usize;
         }
-        if [0, 15, 16].contains(&after.number) {
+        if [0, 15, 16, 20].contains(&after.number) {
             self.remember(regions, &case, &after);
         }
         self.store = after.store;
@@ -758,7 +911,9 @@ impl List {
         expected.extend(&self.lent[expected.len()..]);
         assert_eq!((self.count, &self.store), (records.len(), &expected));
         regions.note("a list of calls");
-        let states: Vec<u8> = records.iter().map(|there| there[record - 1]).collect();
+        self.note_counts(regions, &records);
+        let state_at = self.numbers.state_at();
+        let states: Vec<u8> = records.iter().map(|there| there[state_at]).collect();
         regions.note_if(
             states.contains(&0) && states.contains(&1),
             "a list: records clean and mended at its end",
@@ -771,6 +926,45 @@ impl List {
         regions.note_if(
             was(0, Some(2)) && was(16, None),
             "a list: refused under 16 and replaced",
+        );
+    }
+}
+
+impl List {
+    /// Document 02, Item 6: the total over all records "equals the reads answered without a refusal", and each record's count is
+    /// the number of those of its seed.
+    fn note_counts(&self, regions: &mut Regions, records: &[Vec<u8>]) {
+        let mut answered: HashMap<u32, u32> = HashMap::new();
+        for offered in self.offered.iter().filter(|offered| offered.number == 0) {
+            *answered.entry(offered.droplet.seed).or_default() += 1;
+        }
+        let seed_of = |there: &[u8]| u32::from_be_bytes([there[0], there[1], there[2], there[3]]);
+        for there in records {
+            let behind = shelves::behind_of(there);
+            assert_eq!(answered.get(&seed_of(there)), Some(&behind));
+        }
+        let behind: Vec<u32> = records
+            .iter()
+            .map(|there| shelves::behind_of(there))
+            .collect();
+        let total: u32 = behind.iter().sum();
+        assert_eq!(total, answered.values().sum::<u32>());
+        regions.note_if(
+            behind.contains(&1) && behind.iter().any(|&count| count > 1),
+            "a list: counts of 1 and more at its end",
+        );
+        regions.note_if(
+            behind.iter().any(|&count| count >= 5),
+            "a list: a count of 5 and more",
+        );
+        regions.note_if(
+            self.offered.iter().any(|offered| offered.number == 15) && total > 1,
+            "a list: reads refused under 15 and behind a record",
+        );
+        regions.note_if(total == 0, "a list: no read answered");
+        regions.note_if(
+            total as usize == self.reads.len() && total as usize > records.len(),
+            "a list: all reads answered, and more than there are records",
         );
     }
 }

@@ -1,5 +1,5 @@
 //! The built listing program, `target/bin/listing`, run in folders of its own. Its whole output and its exit status are held to
-//! document 01's text, to numbers that follow from how the input was made, and to `second::listing`.
+//! the text of documents 01 and 02, to numbers that follow from how the input was made, and to `second::listing`.
 
 use second::check_bytes_letters_screen::{letters_of_bytes, strand_bytes};
 use second::mending::all_words_nearby;
@@ -28,8 +28,9 @@ AAAAAAAAAAAAAAACTGCAATCGTCAT
 AAAN
 ";
 
-const TWO_LINES: &str = "reads 5 accepted 3 repeated 1 refused 1
+const THREE_LINES: &str = "reads 5 accepted 3 repeated 1 refused 1
 segments 4 present 3 sweeps 3 contradictions 0
+behind 4
 ";
 
 /// A folder of this test's own, with its pool.card.
@@ -102,11 +103,40 @@ fn run(name: &str, card: Option<&[u8]>, input: &[u8]) -> String {
     let pipe = piped(&format!("{name}-pipe"), card, [input], Duration::ZERO);
     assert_eq!(pipe, text);
     assert_eq!(second::listing(card, input), text);
+    behind_is_what_was_answered(&text);
     text
 }
 
-fn reads(reads: usize, accepted: usize, repeated: usize, refused: usize) -> String {
-    format!("reads {reads} accepted {accepted} repeated {repeated} refused {refused}\n")
+/// Document 02, Item 6: the total on the third line "equals the reads answered without a refusal", accepted and repeated. What is
+/// printed of a card that is refused or too large is one line alone.
+fn behind_is_what_was_answered(text: &str) {
+    if text.starts_with("card ") {
+        assert_eq!(text.lines().count(), 1, "{text}");
+        return;
+    }
+    let words: Vec<&str> = text.split_whitespace().collect();
+    let number_after = |word: &str| {
+        let place = words.iter().position(|&there| there == word).unwrap();
+        words[place + 1].parse::<u64>().unwrap()
+    };
+    let answered = number_after("accepted") + number_after("repeated");
+    assert_eq!(text.lines().count(), 3, "{text}");
+    assert!(text.ends_with(&format!("\nbehind {answered}\n")), "{text}");
+}
+
+/// The three lines: how the reads were answered, the second line as it is, and all reads that were not refused.
+fn three_lines(
+    reads: usize,
+    accepted: usize,
+    repeated: usize,
+    refused: usize,
+    segments: &str,
+) -> String {
+    let behind = accepted + repeated;
+    format!(
+        "reads {reads} accepted {accepted} repeated {repeated} refused {refused}\n\
+         {segments}behind {behind}\n"
+    )
 }
 
 /// A card with R = 4, m = 20 and no GC limits, and D weights of 1.
@@ -138,31 +168,37 @@ fn legal(seed: u32, payload: &[u8]) -> Vec<u8> {
 
 #[test]
 fn five_lines() {
-    assert_eq!(run("five", Some(&P), FIVE_LINES.as_bytes()), TWO_LINES);
+    assert_eq!(run("five", Some(&P), FIVE_LINES.as_bytes()), THREE_LINES);
 }
 
 #[test]
 fn last_line_without_newline_counts() {
     let input = FIVE_LINES.trim_end().as_bytes();
-    assert_eq!(run("unended", Some(&P), input), TWO_LINES);
+    assert_eq!(run("unended", Some(&P), input), THREE_LINES);
 }
 
 #[test]
 fn no_input() {
     let sheet = "segments 4 present 0 sweeps 1 contradictions 0\n";
-    assert_eq!(run("none", Some(&P), b""), reads(0, 0, 0, 0) + sheet);
+    assert_eq!(run("none", Some(&P), b""), three_lines(0, 0, 0, 0, sheet));
 }
 
 #[test]
 fn empty_lines_are_reads() {
     let sheet = "segments 4 present 0 sweeps 1 contradictions 0\n";
-    assert_eq!(run("empty-1", Some(&P), b"\n"), reads(1, 0, 0, 1) + sheet);
-    assert_eq!(run("empty-2", Some(&P), b"\n\n"), reads(2, 0, 0, 2) + sheet);
+    assert_eq!(
+        run("empty-1", Some(&P), b"\n"),
+        three_lines(1, 0, 0, 1, sheet)
+    );
+    assert_eq!(
+        run("empty-2", Some(&P), b"\n\n"),
+        three_lines(2, 0, 0, 2, sheet)
+    );
     let input = format!("\n{SEED_1}\n\n{SEED_1}");
     let sheet = "segments 4 present 1 sweeps 2 contradictions 0\n";
     assert_eq!(
         run("empty-3", Some(&P), input.as_bytes()),
-        reads(4, 1, 1, 2) + sheet
+        three_lines(4, 1, 1, 2, sheet)
     );
 }
 
@@ -172,13 +208,13 @@ fn carriage_returns_are_bytes_of_the_read() {
     let sheet = "segments 4 present 0 sweeps 1 contradictions 0\n";
     assert_eq!(
         run("cr", Some(&P), input.as_bytes()),
-        reads(5, 0, 0, 5) + sheet
+        three_lines(5, 0, 0, 5, sheet)
     );
     let sheet = "segments 4 present 1 sweeps 2 contradictions 0\n";
     let input = format!("\r\n{SEED_1}\n\r");
     assert_eq!(
         run("cr-alone", Some(&P), input.as_bytes()),
-        reads(3, 1, 0, 2) + sheet
+        three_lines(3, 1, 0, 2, sheet)
     );
 }
 
@@ -193,7 +229,10 @@ fn any_bytes() {
     input.push(b'\n');
     input.extend_from_slice(SEED_3.as_bytes());
     let sheet = "segments 4 present 1 sweeps 2 contradictions 0\n";
-    assert_eq!(run("bytes", Some(&P), &input), reads(8, 1, 0, 7) + sheet);
+    assert_eq!(
+        run("bytes", Some(&P), &input),
+        three_lines(8, 1, 0, 7, sheet)
+    );
 }
 
 #[test]
@@ -236,7 +275,7 @@ fn cards_with_a_width() {
     let input = FIVE_LINES.as_bytes();
     for width in [2, 3, 4] {
         let name = format!("width-{width}");
-        assert_eq!(run(&name, Some(&with_width(&P, width)), input), TWO_LINES);
+        assert_eq!(run(&name, Some(&with_width(&P, width)), input), THREE_LINES);
     }
     // The field is whole, stands once and last.
     let card = with_width(&P, 2);
@@ -287,10 +326,16 @@ fn length_of_the_card() {
     let card = card_with(32_768, 1, 1024);
     assert_eq!(card.len(), 4_116);
     let sheet = "segments 32768 present 0 sweeps 1 contradictions 0\n";
-    assert_eq!(run("4116", Some(&card), b""), reads(0, 0, 0, 0) + sheet);
+    assert_eq!(
+        run("4116", Some(&card), b""),
+        three_lines(0, 0, 0, 0, sheet)
+    );
     let card = with_width(&card, 32_768);
     assert_eq!(card.len(), 4_123);
-    assert_eq!(run("4123", Some(&card), b""), reads(0, 0, 0, 0) + sheet);
+    assert_eq!(
+        run("4123", Some(&card), b""),
+        three_lines(0, 0, 0, 0, sheet)
+    );
     // With the field too, 8,192 bytes are read whole and a byte more counts as empty: D is too large, and then there is no card.
     let card = with_width(&card_with(32_768, 1, 2041), 2);
     assert_eq!(card.len(), 8_191);
@@ -325,7 +370,7 @@ fn card_too_large() {
     ] {
         assert_eq!(
             run(name, Some(&card_with(f, l, 1)), b""),
-            reads(0, 0, 0, 0) + text
+            three_lines(0, 0, 0, 0, text)
         );
     }
     for (name, f, l) in [
@@ -357,12 +402,15 @@ CCCGTGAGCTTCCCGCAGCTAGCCGCAG
 GCCACTTATGTAGGTTAGCTCGTGTGAG
 ";
     let sheet = "segments 1 present 1 sweeps 2 contradictions 0\n";
-    assert_eq!(run("joints", Some(&card), input), reads(4, 2, 0, 2) + sheet);
+    assert_eq!(
+        run("joints", Some(&card), input),
+        three_lines(4, 2, 0, 2, sheet)
+    );
     // At m = 4 all of them pass.
     card[12] = 4;
     assert_eq!(
         run("joints-4", Some(&card), input),
-        reads(4, 4, 0, 0) + sheet
+        three_lines(4, 4, 0, 0, sheet)
     );
 }
 
@@ -375,13 +423,13 @@ AAAAAAAAAAAAAAATAACTCGAACACA
 AAAAAAAAAAAAAAAATGCAATCGTCAT
 AAAN
 ";
-    assert_eq!(run("misread", Some(&P), input), TWO_LINES);
+    assert_eq!(run("misread", Some(&P), input), THREE_LINES);
     // 28 letters A but for one are mended to a seed of 0.
     let input = b"AAAAAAAAAAAAAAACAAAAAAAAAAAA";
     let sheet = "segments 4 present 0 sweeps 1 contradictions 0\n";
     assert_eq!(
         run("misread-12", Some(&P), input),
-        reads(1, 0, 0, 1) + sheet
+        three_lines(1, 0, 0, 1, sheet)
     );
     // With four check bytes two wrong bytes are mended; three are too many, as no strand is near to them.
     let card = card_with(1, 1, 1);
@@ -402,13 +450,13 @@ AAAN
     let sheet = "segments 1 present 1 sweeps 2 contradictions 0\n";
     assert_eq!(
         run("misread-4", Some(&card), &lines.join(&b'\n')),
-        reads(4, 1, 2, 1) + sheet
+        three_lines(4, 1, 2, 1, sheet)
     );
 }
 
 #[test]
 fn full_shelf() {
-    // 65,536 bytes hold 949 records of 69 bytes; the reads past them are refused, repeats of those on the shelf are not.
+    // 65,536 bytes hold 897 records of 73 bytes; the reads past them are refused, repeats of those on the shelf are not.
     let card = card_with(64, 64, 1);
     let mut input = Vec::new();
     for seed in (1..=1_000u32).chain(1..=10) {
@@ -418,7 +466,7 @@ fn full_shelf() {
     let sheet = "segments 1 present 1 sweeps 2 contradictions 0\n";
     assert_eq!(
         run("full", Some(&card), &input),
-        reads(1_010, 949, 10, 51) + sheet
+        three_lines(1_010, 897, 10, 103, sheet)
     );
 }
 
@@ -433,7 +481,7 @@ fn contradictory_reads() {
     let sheet = "segments 2 present 1 sweeps 2 contradictions 0\n";
     assert_eq!(
         run("fifteen", Some(&card), &lines.join(&b'\n')),
-        reads(4, 1, 2, 1) + sheet
+        three_lines(4, 1, 2, 1, sheet)
     );
     // Two seeds of one segment that contradict each other both stay.
     let card = card_with(1, 1, 1);
@@ -441,7 +489,7 @@ fn contradictory_reads() {
     let sheet = "segments 1 present 1 sweeps 2 contradictions 1\n";
     assert_eq!(
         run("contradiction", Some(&card), &lines.join(&b'\n')),
-        reads(2, 2, 0, 0) + sheet
+        three_lines(2, 2, 0, 0, sheet)
     );
 }
 
@@ -463,20 +511,20 @@ fn clean_beats_mended() {
         |contradictions| format!("segments 1 present 1 sweeps 2 contradictions {contradictions}\n");
     assert_eq!(
         run("mended", Some(&card), &input),
-        reads(2, 2, 0, 0) + &sheet(1)
+        three_lines(2, 2, 0, 0, &sheet(1))
     );
     // A mended read with the right byte is refused, and a clean one takes its place, listed as repeated.
     lines.push(misread(other, &[0x1B]));
     input = lines.join(&b'\n');
     assert_eq!(
         run("mended-15", Some(&card), &input),
-        reads(3, 2, 0, 1) + &sheet(1)
+        three_lines(3, 2, 0, 1, &sheet(1))
     );
     lines.push(legal(other, &[0x1B]));
     input = lines.join(&b'\n');
     assert_eq!(
         run("replaced", Some(&card), &input),
-        reads(4, 2, 1, 1) + &sheet(0)
+        three_lines(4, 2, 1, 1, &sheet(0))
     );
     // After that the mended read that was there first is refused, and so is a clean one with its byte; the others are repeats.
     lines.extend([misread(other, &[0x2B]), legal(other, &[0x2B])]);
@@ -484,17 +532,17 @@ fn clean_beats_mended() {
     input = lines.join(&b'\n');
     assert_eq!(
         run("replaced-once", Some(&card), &input),
-        reads(8, 2, 3, 3) + &sheet(0)
+        three_lines(8, 2, 3, 3, &sheet(0))
     );
 }
 
 #[test]
 fn full_shelf_of_mended_reads() {
-    // 949 records that were mended to a wrong payload, then all the clean reads, those of new seeds and of the old ones in turn:
+    // 897 records that were mended to a wrong payload, then all the clean reads, those of new seeds and of the old ones in turn:
     // the old ones are replaced, listed as repeated, and the new ones find no space. Nothing contradicts then.
     let card = card_with(64, 64, 1);
     let seed_of = |i: u32| i.wrapping_mul(0x9E37_79B1);
-    let mut lines: Vec<Vec<u8>> = (1..=949u32)
+    let mut lines: Vec<Vec<u8>> = (1..=897u32)
         .map(|i| {
             let mut payload = [0x1B; 64];
             payload[0] ^= 1 + (i % 250) as u8;
@@ -502,19 +550,19 @@ fn full_shelf_of_mended_reads() {
         })
         .collect();
     // The first one fills the segment, and the 251st, 501st and 751st agree with it.
-    let sheet = "segments 1 present 1 sweeps 2 contradictions 945\n";
+    let sheet = "segments 1 present 1 sweeps 2 contradictions 893\n";
     assert_eq!(
         run("full-mended", Some(&card), &lines.join(&b'\n')),
-        reads(949, 949, 0, 0) + sheet
+        three_lines(897, 897, 0, 0, sheet)
     );
-    for i in 1..=949 {
-        lines.push(legal(seed_of(949 + i), &[0x1B; 64]));
+    for i in 1..=897 {
+        lines.push(legal(seed_of(897 + i), &[0x1B; 64]));
         lines.push(legal(seed_of(i), &[0x1B; 64]));
     }
     let sheet = "segments 1 present 1 sweeps 2 contradictions 0\n";
     assert_eq!(
         run("full-replaced", Some(&card), &lines.join(&b'\n')),
-        reads(3 * 949, 949, 949, 949) + sheet
+        three_lines(3 * 897, 897, 897, 897, sheet)
     );
 }
 
@@ -541,13 +589,13 @@ fn long_lines() {
     }
     assert_eq!(
         run("long", Some(&card), &input),
-        reads(lines, 1, 0, lines - 1) + sheet
+        three_lines(lines, 1, 0, lines - 1, sheet)
     );
     input.push(b'\n');
     input.extend_from_slice(&strand);
     assert_eq!(
         run("long-repeat", Some(&card), &input),
-        reads(lines + 1, 1, 1, lines - 1) + sheet
+        three_lines(lines + 1, 1, 1, lines - 1, sheet)
     );
 }
 
@@ -559,13 +607,13 @@ fn a_line_of_a_million_bytes() {
     input.extend_from_slice(SEED_1.as_bytes());
     assert_eq!(
         run("million-first", Some(&P), &input),
-        reads(2, 1, 0, 1) + sheet
+        three_lines(2, 1, 0, 1, sheet)
     );
     input.push(b'\n');
     input.extend_from_slice(&vec![b'\r'; 1 << 20]);
     assert_eq!(
         run("million-last", Some(&P), &input),
-        reads(3, 1, 0, 2) + sheet
+        three_lines(3, 1, 0, 2, sheet)
     );
 }
 
@@ -574,7 +622,7 @@ fn a_hundred_thousand_reads() {
     let four = format!("{SEED_2}\n{SEED_1}\n{SEED_3}\nAAAN\n");
     let input = four.repeat(25_000);
     let sheet = "segments 4 present 3 sweeps 3 contradictions 0\n";
-    let expected = reads(100_000, 3, 74_997, 25_000) + sheet;
+    let expected = three_lines(100_000, 3, 74_997, 25_000, sheet);
     assert_eq!(from_file("many", Some(&P), input.as_bytes()), expected);
     let pipe = piped(
         "many-pipe",
@@ -586,12 +634,25 @@ fn a_hundred_thousand_reads() {
 }
 
 #[test]
+fn many_reads_of_one_seed() {
+    // Counts that need a second byte and a third, beside a seed that was read once.
+    let sheet = "segments 4 present 2 sweeps 2 contradictions 0\n";
+    for (name, times) in [("256", 256), ("65535", 65_535), ("65536", 65_536)] {
+        let input = format!("{SEED_3}\n") + &format!("{SEED_1}\n").repeat(times);
+        assert_eq!(
+            run(&format!("one-seed-{name}"), Some(&P), input.as_bytes()),
+            three_lines(times + 1, 2, times - 1, 0, sheet)
+        );
+    }
+}
+
+#[test]
 fn input_in_small_pieces() {
     let pause = Duration::from_millis(1);
     let bytes = FIVE_LINES.as_bytes();
     assert_eq!(
         piped("one-byte", Some(&P), bytes.chunks(1), pause),
-        TWO_LINES
+        THREE_LINES
     );
     for size in [2, 3, 5, 7, 28, 29, 30, 58] {
         let text = piped(
@@ -600,7 +661,7 @@ fn input_in_small_pieces() {
             bytes.chunks(size),
             pause,
         );
-        assert_eq!(text, TWO_LINES);
+        assert_eq!(text, THREE_LINES);
     }
 }
 

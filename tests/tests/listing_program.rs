@@ -1,5 +1,6 @@
 //! The listing program, run as a program.
 
+use second::check_bytes_letters_screen::{letters_of_bytes, strand_bytes};
 use std::io::Write;
 use std::path::PathBuf;
 use std::process::{Command, Stdio};
@@ -41,7 +42,8 @@ AAAN
     assert_eq!(
         run("bench", Some(&P), input),
         "reads 5 accepted 3 repeated 1 refused 1\n\
-         segments 4 present 3 sweeps 3 contradictions 0\n"
+         segments 4 present 3 sweeps 3 contradictions 0\n\
+         behind 4\n"
     );
 }
 
@@ -57,7 +59,8 @@ fn cards_with_a_width() {
                 b"AAAAAAAAAAAAAAACTGCAATCGTCAT"
             ),
             "reads 1 accepted 1 repeated 0 refused 0\n\
-             segments 4 present 1 sweeps 2 contradictions 0\n"
+             segments 4 present 1 sweeps 2 contradictions 0\n\
+             behind 1\n"
         );
     }
     for width in [0, 1, 5] {
@@ -66,7 +69,8 @@ fn cards_with_a_width() {
 }
 
 /// Document 02, Item 5: a clean read after a mended one of its seed is listed as
-/// repeated, and so are those after it, mended or not.
+/// repeated, and so are those after it, mended or not. Item 6: all four are behind the
+/// one record.
 #[test]
 fn clean_after_mended() {
     let input = b"TAAAAAAAAAAAAAACTGCAATCGTCAT
@@ -77,7 +81,25 @@ AAAAAAAAAAAAAAACTGCAATCGTCAT
     assert_eq!(
         run("clean", Some(&P), input),
         "reads 4 accepted 1 repeated 3 refused 0\n\
-         segments 4 present 1 sweeps 2 contradictions 0\n"
+         segments 4 present 1 sweeps 2 contradictions 0\n\
+         behind 4\n"
+    );
+}
+
+/// Document 02, Item 6: a read with another payload and one that is no strand are not
+/// behind any record.
+#[test]
+fn refused_reads_are_not_behind() {
+    let mut card = P;
+    (card[13], card[14]) = (0, 0); // lo
+    let other = letters_of_bytes(&strand_bytes(1, &[0x1B], 2));
+    let mut input = b"AAAAAAAAAAAAAAACTGCAATCGTCAT\nAAAN\n".to_vec();
+    input.extend(other);
+    assert_eq!(
+        run("refused", Some(&card), &input),
+        "reads 3 accepted 1 repeated 0 refused 2\n\
+         segments 4 present 1 sweeps 2 contradictions 0\n\
+         behind 1\n"
     );
 }
 
@@ -96,6 +118,7 @@ fn no_reads() {
     assert_eq!(
         run("none", Some(&P), b""),
         "reads 0 accepted 0 repeated 0 refused 0\n\
-         segments 4 present 0 sweeps 1 contradictions 0\n"
+         segments 4 present 0 sweeps 1 contradictions 0\n\
+         behind 0\n"
     );
 }

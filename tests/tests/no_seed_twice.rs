@@ -165,7 +165,7 @@ impl Job {
         while !strands.is_empty() {
             mixed.push(strands.swap_remove(7_919 * mixed.len() % strands.len()));
         }
-        let mut shelf = vec![0; all * 37];
+        let mut shelf = vec![0; all * 41];
         for (count, strand) in mixed.iter().enumerate() {
             let answer = shelve(&handed, strand, &mut shelf, count);
             assert_eq!(answer, Ok(Shelved::Accepted { count: count + 1 }));

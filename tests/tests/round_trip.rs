@@ -2,7 +2,10 @@
 
 use second::check_bytes_letters_screen::{bytes_of_letters, check_bytes, letters_of_bytes};
 use second::clean_beats_mended::records_after_a_list;
+use second::read_counts::total_behind;
+use second::shelf::records;
 use second::*;
+use std::collections::HashMap;
 
 fn bytes_of(weights: &[u32]) -> Vec<u8> {
     weights.iter().flat_map(|w| w.to_be_bytes()).collect()
@@ -11,6 +14,43 @@ fn bytes_of(weights: &[u32]) -> Vec<u8> {
 fn next(state: &mut u32, below: usize) -> usize {
     *state = state.wrapping_mul(1_664_525).wrapping_add(1_013_904_223);
     (*state >> 4) as usize % below
+}
+
+/// The reads of a list that were answered without a refusal, by their seeds.
+#[derive(Default)]
+struct Answered(HashMap<u32, u32>);
+
+impl Answered {
+    /// Offers a read to the shelf, and counts it if it is not refused.
+    fn shelve(
+        &mut self,
+        handed: &Handed,
+        read: &[u8],
+        shelf: &mut [u8],
+        count: usize,
+    ) -> Result<Shelved, Refusal> {
+        let answer = shelve(handed, read, shelf, count);
+        if answer.is_ok() {
+            let seed = read_check(handed, read).unwrap().seed;
+            *self.0.entry(seed).or_default() += 1;
+        }
+        answer
+    }
+
+    fn total(&self) -> u128 {
+        self.0.values().map(|&reads| u128::from(reads)).sum()
+    }
+
+    /// Document 02, Item 6: "for every list of reads from an empty shelf that total equals
+    /// the reads answered without a refusal", and each record's count those of its seed.
+    fn stand_on(&self, handed: &Handed, shelf: &[u8], count: usize) {
+        let on_shelf = records(shelf, count, handed.l);
+        for record in &on_shelf {
+            assert_eq!(self.0.get(&record.seed), Some(&record.behind));
+        }
+        assert_eq!(self.0.len(), count);
+        assert_eq!(total_behind(&on_shelf), self.total());
+    }
 }
 
 #[test]
@@ -53,17 +93,26 @@ fn a_file_comes_back() {
 
     for trial in 1..=20u32 {
         let mut state = trial;
-        let mut shelf = vec![0xEE; 250 * 25 + 5];
-        let mut count = 0;
+        // Space for fewer seeds than most lists have, and for all of them.
+        let space = [200, 300][trial as usize % 2];
+        let mut shelf = vec![0xEE; space * 29 + 5];
+        let (mut count, mut refused) = (0, 0);
+        let mut answered = Answered::default();
         for _ in 0..400 {
             let read = strands[next(&mut state, strands.len())];
-            match shelve(&handed, read, &mut shelf, count) {
+            match answered.shelve(&handed, read, &mut shelf, count) {
                 Ok(Shelved::Accepted { count: after }) => count = after,
                 Ok(Shelved::Repeat { count: after }) => assert_eq!(after, count),
                 Ok(Shelved::Replaced { .. }) => panic!("no read is mended"),
-                Err(Refusal(number)) => assert_eq!(number, 16),
+                Err(Refusal(number)) => {
+                    assert_eq!((number, count), (16, 200));
+                    refused += 1;
+                }
             }
         }
+        assert_eq!(refused > 0, space == 200);
+        assert_eq!(answered.total(), 400 - refused);
+        answered.stand_on(&handed, &shelf, count);
         let mut back = vec![0xEE; 2003];
         let mut marks = vec![0xEE; 101];
         let restored = restore(&handed, &shelf, count, &mut back, &mut marks, &mut list).unwrap();
@@ -89,7 +138,7 @@ fn a_file_comes_back() {
     }
 
     // All strands in order: the whole file.
-    let mut shelf = vec![0; 300 * 25];
+    let mut shelf = vec![0; 300 * 29];
     let mut count = 0;
     for strand in &strands {
         let Ok(Shelved::Accepted { count: after }) = shelve(&handed, strand, &mut shelf, count)
@@ -105,19 +154,21 @@ fn a_file_comes_back() {
     assert_eq!(back[..1990], file);
 }
 
-/// A shelf of clean records with L = 20, as if all of them were mended.
-fn with_state_1(clean: &[u8]) -> Vec<u8> {
+/// A shelf of clean records with L = 20, of one read each, as if all of them had this
+/// state byte and this count.
+fn with_state_and_count(clean: &[u8], state: u8, behind: u8) -> Vec<u8> {
     let mut shelf = clean.to_vec();
-    for record in shelf.chunks_exact_mut(25) {
-        assert_eq!(record[24], 0);
-        record[24] = 1;
+    for record in shelf.chunks_exact_mut(29) {
+        assert_eq!(record[24..], [0, 0, 0, 0, 1]);
+        (record[24], record[28]) = (state, behind);
     }
     shelf
 }
 
 /// Document 02, Item 3: every strand is read with as many wrong bytes as can be mended,
 /// anywhere in it. The file is that of clean reads, and so is the shelf but for its
-/// states (Item 5), until it has the clean reads as well.
+/// states (Item 5), until it has the clean reads as well, and two reads behind each
+/// record (Item 6).
 #[test]
 fn a_misread_file_comes_back() {
     let file: Vec<u8> = (0..1990u32)
@@ -145,7 +196,7 @@ fn a_misread_file_comes_back() {
         let written = write(&handed, &file, start, 300, 100_000, &mut printed, &mut list);
         assert_eq!(written.unwrap().made, 300);
 
-        let mut clean = vec![0xEE; 300 * 25 + 1];
+        let mut clean = vec![0xEE; 300 * 29 + 1];
         let mut misread = clean.clone();
         let mut state = 7;
         for (count, line) in printed.chunks(n + 1).enumerate() {
@@ -163,7 +214,7 @@ fn a_misread_file_comes_back() {
             assert_eq!(droplet.mended, usize::from(r) / 2);
             assert_eq!(shelve(&handed, &read, &mut misread, count), accepted);
         }
-        assert_eq!(misread, with_state_1(&clean));
+        assert_eq!(misread, with_state_and_count(&clean, 1, 1));
         let mut back = vec![0; 2000];
         let mut marks = vec![0; 100];
         let restored = restore(&handed, &misread, 300, &mut back, &mut marks, &mut list).unwrap();
@@ -173,7 +224,7 @@ fn a_misread_file_comes_back() {
             let replaced = Ok(Shelved::Replaced { count: 300 });
             assert_eq!(shelve(&handed, &line[..n], &mut misread, 300), replaced);
         }
-        assert_eq!(misread, clean);
+        assert_eq!(misread, with_state_and_count(&clean, 0, 2));
     }
 }
 
@@ -287,7 +338,7 @@ fn clean_reads_put_a_file_right() {
         let handed = job.handed();
         let strands = job.printed();
         let mut state = 5;
-        let mut shelf = vec![0xEE; 300 * 25];
+        let mut shelf = vec![0xEE; 300 * 29];
         for (count, strand) in strands.iter().enumerate() {
             let read = job.wrongly_mended(strand, &mut state);
             let accepted = Ok(Shelved::Accepted { count: count + 1 });
@@ -304,7 +355,7 @@ fn clean_reads_put_a_file_right() {
         assert_eq!(job.restored(&shelf, 300), (job.file.clone(), true));
         let clean: Vec<u8> = strands
             .iter()
-            .flat_map(|strand| [&strand[..24], &[0]].concat())
+            .flat_map(|strand| [&strand[..24], &[0, 0, 0, 0, 2]].concat())
             .collect();
         assert_eq!(shelf, clean);
     }
@@ -317,7 +368,7 @@ fn clean_records_alone() {
     for r in [2, 4] {
         let job = Job::of(r);
         let handed = job.handed();
-        let (mut shelf, mut state) = (vec![0xEE; 300 * 25], 9);
+        let (mut shelf, mut state) = (vec![0xEE; 300 * 29], 9);
         for (count, strand) in job.printed().iter().enumerate() {
             let read = match count % 15 {
                 0 => job.wrongly_mended(strand, &mut state),
@@ -329,9 +380,9 @@ fn clean_records_alone() {
         let (file, agrees) = job.restored(&shelf, 300);
         assert!(file != job.file && !agrees);
 
-        let records = shelf.chunks_exact(25).filter(|record| record[24] == 0);
+        let records = shelf.chunks_exact(29).filter(|record| record[24] == 0);
         let clean: Vec<u8> = records.flatten().copied().collect();
-        assert_eq!(clean.len(), 280 * 25);
+        assert_eq!(clean.len(), 280 * 29);
         assert_eq!(job.restored(&clean, 280), (job.file.clone(), true));
     }
 }
@@ -357,10 +408,11 @@ fn mixed_reads_give_the_file() {
             let other = next(&mut state, reads.len());
             reads.swap(i, other);
         }
-        let mut shelf = vec![0xEE; 300 * 25 + 24];
+        let mut shelf = vec![0xEE; 300 * 29 + 28];
         let (mut count, mut replaced, mut refused) = (0, 0, 0);
+        let mut answered = Answered::default();
         for read in &reads {
-            match shelve(&handed, read, &mut shelf, count) {
+            match answered.shelve(&handed, read, &mut shelf, count) {
                 Ok(Shelved::Accepted { count: after }) => count = after,
                 Ok(Shelved::Repeat { count: after }) => assert_eq!(after, count),
                 Ok(Shelved::Replaced { count: after }) => {
@@ -375,8 +427,10 @@ fn mixed_reads_give_the_file() {
         }
         assert!(count == 300 && (100..300).contains(&replaced) && refused > 300);
         let expected = records_after_a_list(&handed, &reads, 300);
-        assert_eq!(shelf[..7500], expected.concat());
-        assert_eq!(shelf[7500..], [0xEE; 24]);
+        assert_eq!(shelf[..8700], expected.concat());
+        assert_eq!(shelf[8700..], [0xEE; 28]);
+        assert_eq!(answered.total(), 1500 - refused);
+        answered.stand_on(&handed, &shelf, count);
         assert_eq!(job.restored(&shelf, count), (job.file.clone(), true));
     }
 }
@@ -429,7 +483,7 @@ fn a_dealt_file_comes_back() {
         .unwrap();
         assert_eq!((answer.stop, answer.made), (Stop::Done, 300), "{width}");
 
-        let mut shelf = vec![0; 300 * 25];
+        let mut shelf = vec![0; 300 * 29];
         let mut count = 0;
         for line in printed.chunks(113).rev() {
             let Ok(Shelved::Accepted { count: after }) =
@@ -473,7 +527,7 @@ fn the_largest_card() {
     let mut list = vec![0; 1024];
     let answer = write(&handed, &file, u32::MAX, 3, 30, &mut printed, &mut list).unwrap();
     assert_eq!((answer.stop, answer.made), (Stop::Done, 3));
-    let mut shelf = vec![0; 3 * 69];
+    let mut shelf = vec![0; 3 * 73];
     let mut count = 0;
     for line in printed.chunks(289) {
         assert_eq!(line[288], b'\n');

@@ -5,7 +5,7 @@ use mathlib.Core.Logic.{inl, inr}
 use Prim.Native.Nat.{ℕ, zero, suc}
 use lib.ListN.{take}
 use Rattle.field.specs.Bytes.{All}
-use Rattle.decoder.specs.Vault.{Among, AllAmong}
+use Rattle.decoder.specs.Among.{Among, AllAmong}
 
 module _ {A : Type 0} (P Q : A → Type 0) where
   pub all-map : ((a : A) → P a → Q a) → (l : List A) → All P l → All Q l

@@ -5,17 +5,17 @@ use Prim.Native.Nat.{ℕ}
 use Rattle.droplet.specs.declared.card.Card.{Card}
 use Rattle.strand.specs.ReadCheck.{Reading, droplet, refused, readCheck}
 use Rattle.strand.proofs.LegalStrands.{accepts-exactly}
-use Rattle.decoder.specs.Store.{Record, dropletRecord}
-use Rattle.decoder.proofs.RecordBytes.{IsRecord}
+use Rattle.decoder.specs.Store.{LegalRead, dropletRead}
+use Rattle.decoder.proofs.RecordBytes.{IsRead}
 
--- what holds of the record of a reading that is a droplet
-abbrev pub InReading : (Record → Type 0) → Reading → Type 0
-InReading P (droplet s p k) = P (dropletRecord s p k)
+-- what holds of a reading that is a droplet
+abbrev pub InReading : (LegalRead → Type 0) → Reading → Type 0
+InReading P (droplet s p k) = P (dropletRead s p k)
 InReading P (refused n) = Unit {0}
 
--- a droplet that a record of L payload bytes holds, or a refusal
+-- a droplet that a record of L payload bytes can hold, or a refusal
 abbrev pub Recordable : ℕ → Reading → Type 0
-Recordable L = InReading (IsRecord L)
+Recordable L = InReading (IsRead L)
 
 module _ (c : Card) (weights read : List ℕ) where
   reading-recordable : (o : Reading) → readCheck c weights read ≡ o → Recordable (c .l) o

@@ -10,7 +10,7 @@ use lib.Seq.{length-take-le, getD-take, ext-getD}
 use Rattle.field.proofs.Tests.{either}
 use Rattle.decoder.specs.Restorer.{Droplet, marked}
 use Rattle.decoder.specs.Demand3.{hits, Stalls}
-use Rattle.decoder.specs.Vault.{AllAmong}
+use Rattle.decoder.specs.Among.{AllAmong}
 use Rattle.decoder.proofs.AllOf.{all-among, among-all}
 use Rattle.decoder.proofs.PoolShapes.{Peelable, stateAfter}
 use Rattle.decoder.proofs.FillKeeps.{peelAll-sized}

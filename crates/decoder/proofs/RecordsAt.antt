@@ -7,7 +7,7 @@ use native.Mathlib.Omega.{arith}
 use lib.ListN.{length, drop, length-drop}
 use lib.Seq.{length-take-le, take-take, drop-drop, getD-take}
 use Rattle.field.specs.Bytes.{fromBigEndian}
-use Rattle.decoder.specs.Store.{Record, readsClean, recordBytes, recordPayload, recordState, recordFrom, records}
+use Rattle.decoder.specs.Store.{Record, readsClean, recordBytes, recordPayload, recordState, recordCount, recordFrom, records}
 use Rattle.decoder.specs.Restorer.{Droplet}
 use Rattle.decoder.specs.Loops.{recordAt, dropletOf, dropletsOf}
 use Rattle.decoder.proofs.BufferParts.{part-inside}
@@ -36,14 +36,18 @@ module _ (L count : ℕ) (store : List ℕ) where
 
     -- a record reads no byte behind its own
     record-own : recordFrom L (drop (i * recordBytes L) store) ≡ recordFrom L (recordAt L store i)
-    unfolding recordFrom recordPayload recordState recordAt
+    unfolding recordFrom recordPayload recordState recordCount recordAt
     record-own =
         let from = drop (i * recordBytes L) store in
         let room : recordBytes L ≤ length from = rw length-drop (omega (arith, record-fits)) in
         let seed = take-take 4 (recordBytes L) from (omega (arith, parts-fit L)) in
         let payload = part-inside 4 L (recordBytes L) from (omega (arith, parts-fit L)) room in
         let state = getD-take (recordBytes L) from (4 + L) 0 (omega (arith, parts-fit L)) in
-        λ z. record { seed = fromBigEndian (sym seed z); payload = sym payload z; clean = readsClean (sym state z) }
+        let count = part-inside (5 + L) 4 (recordBytes L) from (omega (arith, parts-fit L)) room in
+        λ z. record {
+          read = record { seed = fromBigEndian (sym seed z); payload = sym payload z; clean = readsClean (sym state z) };
+          count = fromBigEndian (sym count z);
+        }
 
     pub records-next : recordsFrom L count store i ≡ recordFrom L (recordAt L store i) ∷ recordsFrom L count store (i + 1)
     unfolding recordsFrom records

@@ -11,10 +11,10 @@ use lib.ListN.{length, take}
 use Rattle.field.proofs.Tests.{either}
 use Rattle.droplet.specs.Droplet.{member, Distinct}
 use Rattle.droplet.proofs.Sets.{member-append}
-use Rattle.decoder.specs.Store.{Record}
+use Rattle.decoder.specs.Store.{LegalRead}
 use Rattle.decoder.specs.Demand3.{seedsOf}
 
-pub seeds-join : (rs rs′ : List Record) → seedsOf (rs ++ rs′) ≡ seedsOf rs ++ seedsOf rs′
+pub seeds-join : (rs rs′ : List LegalRead) → seedsOf (rs ++ rs′) ≡ seedsOf rs ++ seedsOf rs′
 seeds-join [] rs′ = refl
 seeds-join (r ∷ rs) rs′ = ap (λ (l : List ℕ). r .seed ∷ l) (seeds-join rs rs′)
 

@@ -1,5 +1,5 @@
--- Demand 3, its opening sentence as document 02's Item 5 restates it, as one claim about every list of store calls and every restore under
--- one accepted card. Assumes nothing.
+-- Demand 3, its opening sentence as document 02's Item 5 restates it, with the counts of Item 6, as one claim about every list of store
+-- calls and every restore under one accepted card. Assumes nothing.
 use mathlib.Core.Path.{_≡_}
 use mathlib.Core.Logic.{_↔_}
 use mathlib.Core.Bool.{Bool, true, false, cond, not, _&&_}
@@ -17,26 +17,29 @@ use Rattle.decoder.specs.declared.store.StoreAnswer.{StoreAnswer}
 use Rattle.decoder.specs.declared.store.StoreAnswer.the-variants as reply
 use Rattle.decoder.specs.declared.restorer.Sheet.{Sheet}
 use Rattle.decoder.specs.declared.restorer.RestoreAnswer.the-variants as sheet
-use Rattle.decoder.specs.Store.{Record, recordBytes, recordsText, Stored, accepted, repeat, replaced, refusal, storeAnswer, dropletRecord, StorePromise}
+use Rattle.decoder.specs.Store.{LegalRead, Record, recordBytes, recordsText, records, Stored, accepted, repeat, replaced, refusal, storeAnswer, fullCount, dropletRead, StorePromise}
 use Rattle.decoder.specs.Restorer.{Droplet, droplets, marked, present, RestorePromise}
 
 -- ---- the store
 
--- the seeds of records or reads
-abbrev pub seedsOf : List Record → List ℕ
+-- the seeds of reads, and the reads that records hold
+abbrev pub seedsOf : List LegalRead → List ℕ
 seedsOf rs = map (λ r. r .seed) rs
 
+abbrev pub readsIn : List Record → List LegalRead
+readsIn rs = map (λ r. r .read) rs
+
 -- "keep the legal ones", in the order offered: those that the read check accepts, corrected ones among them
-abbrev pub keptReading : Reading → List Record → List Record
-keptReading (droplet s p k) rest = dropletRecord s p k ∷ rest
+abbrev pub keptReading : Reading → List LegalRead → List LegalRead
+keptReading (droplet s p k) rest = dropletRead s p k ∷ rest
 keptReading (refused n) rest = rest
 
-unfoldable pub legalReads : Card → List ℕ → List (List ℕ) → List Record
+unfoldable pub legalReads : Card → List ℕ → List (List ℕ) → List LegalRead
 legalReads c weights [] = []
 legalReads c weights (r ∷ rs) = keptReading (readCheck c weights r) (legalReads c weights rs)
 
 -- "the seeds still stand in the order of their first legal reads", where `seen` went before
-unfoldable pub firstSeeds : List ℕ → List Record → List ℕ
+unfoldable pub firstSeeds : List ℕ → List LegalRead → List ℕ
 firstSeeds seen [] = []
 firstSeeds seen (r ∷ rs) = cond (member (r .seed) seen) (firstSeeds seen rs) (r .seed ∷ firstSeeds (seen ++ (r .seed ∷ [])) rs)
 
@@ -45,30 +48,35 @@ unfoldable pub storedSeeds : Card → List ℕ → List ℕ → List (List ℕ) 
 storedSeeds c weights lent reads = take (length lent / recordBytes (c .l)) (firstSeeds [] (legalReads c weights reads))
 
 -- the clean ones of some reads of a seed, and the corrected (mended) ones, in the order offered
-abbrev pub cleanOf : ℕ → Record → Bool
+abbrev pub cleanOf : ℕ → LegalRead → Bool
 cleanOf s r = eqb (r .seed) s && r .clean
 
-abbrev pub correctedOf : ℕ → Record → Bool
+abbrev pub correctedOf : ℕ → LegalRead → Bool
 correctedOf s r = eqb (r .seed) s && not (r .clean)
 
-unfoldable pub those : (Record → Bool) → List Record → List Record
+unfoldable pub those : (LegalRead → Bool) → List LegalRead → List LegalRead
 those test [] = []
 those test (r ∷ rs) = cond (test r) (r ∷ those test rs) (those test rs)
 
 -- of some reads a seed's "first clean read .., or its first mended one if there is none": one, or none where no read has the seed
-unfoldable pub bestOf : ℕ → List Record → List Record
+unfoldable pub bestOf : ℕ → List LegalRead → List LegalRead
 bestOf s reads = take 1 (those (cleanOf s) reads ++ those (correctedOf s) reads)
 
 -- the same of each of these seeds, in this order
-unfoldable pub bestOfEach : List ℕ → List Record → List Record
+unfoldable pub bestOfEach : List ℕ → List LegalRead → List LegalRead
 bestOfEach [] reads = []
 bestOfEach (s ∷ ss) reads = bestOf s reads ++ bestOfEach ss reads
 
+-- how many of some reads have a seed
+unfoldable pub countOf : ℕ → List LegalRead → ℕ
+countOf s reads = length (those (λ r. eqb (r .seed) s) reads)
+
 -- "The count is their number, the records have their seeds and payloads in that order, and the bytes past the records are
--- as they were lent"
+-- as they were lent"; read back they are these records, each with its state and its count
 pub record Holds (L : ℕ) (lent : List ℕ) (rs : List Record) (buffer : List ℕ) (count : ℕ) : Type 0 where
   pub number : count ≡ length rs
   pub bytes : buffer ≡ recordsText rs ++ drop (length rs * recordBytes L) lent
+  pub read-back : records L count buffer ≡ rs
 
 -- one store call: the read offered, the answer, and the buffer after it
 pub record Call : Type 0 where
@@ -103,28 +111,53 @@ abbrev pub lastCount : ℕ → List Call → ℕ
 lastCount count [] = count
 lastCount count (k ∷ ks) = lastCount (nextCount count (k .answer)) ks
 
-abbrev pub isRefusal : Stored → Bool
-isRefusal (accepted n) = false
-isRefusal (repeat n) = false
-isRefusal (replaced n) = false
-isRefusal (refusal q) = true
+-- a call "answered without a refusal", and one that is not refused under 20
+abbrev pub answered : Stored → Bool
+answered (accepted n) = true
+answered (repeat n) = true
+answered (replaced n) = true
+answered (refusal q) = false
 
--- the legal reads that were "not refused", in the order offered
-unfoldable pub takenReads : Card → List ℕ → List Call → List Record
-takenReads c weights [] = []
-takenReads c weights (k ∷ ks) =
-    cond (isRefusal (storeAnswer (k .answer))) (takenReads c weights ks) (keptReading (readCheck c weights (k .read)) (takenReads c weights ks))
+abbrev pub not20 : Stored → Bool
+not20 (accepted n) = true
+not20 (repeat n) = true
+not20 (replaced n) = true
+not20 (refusal q) = not (eqb q 20)
+
+-- the legal reads of the calls whose answers pass a test, in the order offered; and how many calls these are
+unfoldable pub readsWith : (Stored → Bool) → Card → List ℕ → List Call → List LegalRead
+readsWith test c weights [] = []
+readsWith test c weights (k ∷ ks) =
+    cond (test (storeAnswer (k .answer))) (keptReading (readCheck c weights (k .read)) (readsWith test c weights ks)) (readsWith test c weights ks)
+
+unfoldable pub callsWith : (Stored → Bool) → List Call → ℕ
+callsWith test [] = 0
+callsWith test (k ∷ ks) = cond (test (storeAnswer (k .answer))) (suc (callsWith test ks)) (callsWith test ks)
+
+-- those that were "not refused"
+abbrev pub takenReads : Card → List ℕ → List Call → List LegalRead
+takenReads c weights calls = readsWith answered c weights calls
+
+-- a record of one of the reads that were not refused: its count is the number of those with its seed
+abbrev pub countedRecord : List LegalRead → LegalRead → Record
+countedRecord taken r = record { read = r; count = countOf (r .seed) taken }
 
 -- "For each seed that found space, the record at the end of the list is now its first clean read that was not refused, or its first mended
 -- one if there is none"
 unfoldable pub storedRecords : Card → List ℕ → List ℕ → List Call → List Record
-storedRecords c weights lent calls = bestOfEach (storedSeeds c weights lent (readsOf calls)) (takenReads c weights calls)
+storedRecords c weights lent calls =
+    let taken = takenReads c weights calls in map (countedRecord taken) (bestOfEach (storedSeeds c weights lent (readsOf calls)) taken)
 
--- these records have those seeds, in that order; and no refusal matters to them: of all legal reads of its seed, refused ones among them, a
--- record is the first clean one, or the first mended one if there is none
-pub record Best (seeds : List ℕ) (legal : List Record) (rs : List Record) : Type 0 where
-  pub order : seedsOf rs ≡ seeds
-  pub legal-too : rs ≡ bestOfEach seeds legal
+-- these records have those seeds, in that order; and no refusal matters to what they hold: of all legal reads of its seed, refused ones among
+-- them, a record holds the first clean one, or the first mended one if there is none
+pub record Best (seeds : List ℕ) (legal : List LegalRead) (rs : List Record) : Type 0 where
+  pub order : seedsOf (readsIn rs) ≡ seeds
+  pub legal-too : readsIn rs ≡ bestOfEach seeds legal
+
+-- "the total over all records"
+unfoldable pub totalCount : List Record → ℕ
+totalCount [] = 0
+totalCount (r ∷ rs) = r .count + totalCount rs
 
 -- ---- the restore
 
@@ -166,8 +199,15 @@ pub record Claim (c : Card) (weights : List ℕ) : Type 0 where
   -- every list of store calls from an empty store, a buffer of any length and bytes
   pub store : (lent : List ℕ) (calls : List Call) → Chained c weights lent 0 calls
       → Holds (c .l) lent (storedRecords c weights lent calls) (lastBuffer lent calls) (lastCount 0 calls)
+  -- of the legal reads that were not refused under 20
   pub best : (lent : List ℕ) (calls : List Call) → Chained c weights lent 0 calls
-      → Best (storedSeeds c weights lent (readsOf calls)) (legalReads c weights (readsOf calls)) (storedRecords c weights lent calls)
+      → Best (storedSeeds c weights lent (readsOf calls)) (readsWith not20 c weights calls) (storedRecords c weights lent calls)
+  -- "for every list of reads from an empty shelf that total equals the reads answered without a refusal"
+  pub total : (lent : List ℕ) (calls : List Call) → Chained c weights lent 0 calls
+      → totalCount (storedRecords c weights lent calls) ≡ callsWith answered calls
+  -- with no more calls than a count can count none is refused under 20, so that those are all legal reads
+  pub never-20 : (lent : List ℕ) (calls : List Call) → Chained c weights lent 0 calls → length calls ≤ fullCount
+      → All (λ k. k .answer ≡ reply.Refused 20 → ⊥) calls × (readsWith not20 c weights calls ≡ legalReads c weights (readsOf calls))
   -- such a list of calls exists for every list of reads, whatever bytes each offers
   pub calls : (lent : List ℕ) (reads : List (List ℕ)) → (calls : List Call) × Chained c weights lent 0 calls × (readsOf calls ≡ reads)
   -- the sets that seeds pick hold each segment once, and only segments of the pool

@@ -24,7 +24,7 @@ recordAt L store i = take (recordBytes L) (drop (i * recordBytes L) store)
 
 -- the droplet of a record, and those of the first records of a store, by the numbers of a card
 unfoldable pub dropletOf : List ℕ → ℕ → Record → Droplet
-dropletOf weights K r = record { segments = segmentsOf weights K (r .seed); payload = r .payload }
+dropletOf weights K r = record { segments = segmentsOf weights K (r .read .seed); payload = r .read .payload }
 
 unfoldable pub dropletsOf : List ℕ → ℕ → ℕ → ℕ → List ℕ → List Droplet
 dropletsOf weights K L count store = map (dropletOf weights K) (records L count store)

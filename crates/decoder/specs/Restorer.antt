@@ -21,7 +21,7 @@ pub record Droplet : Type 0 where
 
 unfoldable pub droplets : Card → List ℕ → List ℕ → ℕ → List Droplet
 droplets c weights buffer count =
-    map (λ r. record { segments = segmentsOf weights (segmentCount c) (r .seed); payload = r .payload }) (records (c .l) count buffer)
+    map (λ r. record { segments = segmentsOf weights (segmentCount c) (r .read .seed); payload = r .read .payload }) (records (c .l) count buffer)
 
 -- the file and the marks
 pub record State : Type 0 where
@@ -107,7 +107,7 @@ contradictions L (d ∷ ds) st = cond (contradicts L st d) (suc (contradictions 
 -- 17: "No seed 0 on the shelf?"
 unfoldable pub hasSeed : ℕ → List Record → Bool
 hasSeed s [] = false
-hasSeed s (r ∷ rs) = cond (eqb (r .seed) s) true (hasSeed s rs)
+hasSeed s (r ∷ rs) = cond (eqb (r .read .seed) s) true (hasSeed s rs)
 
 -- 18: "File at least K·L, marks at least K?", then 8: "Number list at least D long?"
 unfoldable pub roomRefusal : ℕ → ℕ → ℕ → ℕ → ℕ → ℕ → ℕ

@@ -1,11 +1,13 @@
 ghost use mathlib.Core.Path.{_≡_};
-ghost use Prim.Native.Nat.{_≤_};
+ghost use Prim.Native.Nat.{_+_, _≤_};
 ghost use lib.ListN.{length};
 ghost use Rattle.strand.specs.ReadCheck.{lettersReading};
 ghost use Rattle.strand.specs.Loops.{InRange};
-ghost use Rattle.decoder.specs.Store.{readsClean, takesOver, countFits, appended, storeRecord, storeReading, StorePromise};
-ghost use Rattle.decoder.specs.StoreLoops.{Within, Sought, Keeps, refusalNumber};
+ghost use Rattle.decoder.specs.Store.{readsClean, takesOver, recordBytes, countFits, appended, storeRecord, storeReading, StorePromise};
+ghost use Rattle.decoder.specs.StoreLoops.{Within, Sought, Keeps, Counts, refusalNumber};
+use crate::records::count_in;
 use crate::records::payload_in;
+use crate::records::put_count;
 use crate::records::put_record;
 use crate::records::record_bytes;
 use crate::records::replace_evidence;
@@ -93,7 +95,21 @@ fn takes_over(clean: bool, state: u8) -> bool
     false
 }
 
-// Takes a droplet in: it takes over the first record of its seed, or question 15 compares them, and where there is none question 16.
+// Counts one read more behind the record that starts at a place, unless its count is full: question 20.
+fn count_again(store: &mut [u8], at: usize, l: usize) -> bool
+    requires { ⌜ (l ≤ 64) × (at + recordBytes l ≤ length (now store)) ⌝ }
+    ensures { λ r. ⌜ Counts l at (now (store .entry)) r (now (store .exit)) ⌝ }
+{
+    let behind = count_in(&store[at..], l);
+    if behind == u32::MAX {
+        return false;
+    }
+    put_count(store, at, l, behind + 1);
+    true
+}
+
+// Takes a droplet in: it takes over the first record of its seed, or question 15 compares them, then question 20; and where there is none
+// question 16.
 fn store_droplet(
     store: &mut [u8],
     count: usize,
@@ -108,11 +124,17 @@ fn store_droplet(
         return append(store, count, seed, payload, clean);
     };
     if takes_over(clean, state_in(&store[at..], payload.len())) {
-        replace_evidence(store, at, payload, clean);
-        return StoreAnswer::Replaced(count);
+        if count_again(store, at, payload.len()) {
+            replace_evidence(store, at, payload, clean);
+            return StoreAnswer::Replaced(count);
+        }
+        return StoreAnswer::Refused(20);
     }
     if starts_with(payload_in(&store[at..], payload.len()), payload) {
-        return StoreAnswer::Repeat(count);
+        if count_again(store, at, payload.len()) {
+            return StoreAnswer::Repeat(count);
+        }
+        return StoreAnswer::Refused(20);
     }
     StoreAnswer::Refused(15)
 }
@@ -127,7 +149,7 @@ fn refusal_of(outcome: ReadOutcome) -> u8
     }
 }
 
-// The questions 9 to 13, 15 and 16: the droplet is taken out of the read check's answer, or its refusal is handed on. The card's
+// The questions 9 to 13, 15, 20 and 16: the droplet is taken out of the read check's answer, or its refusal is handed on. The card's
 // own questions have been asked.
 fn offer(card: Card, store: &mut [u8], count: usize, read: &[u8]) -> StoreAnswer
     requires { ⌜ Within (card .l) count (now store) × InRange card ⌝ }

@@ -2,3 +2,4 @@ pub mod Counting
 pub mod LongLines
 pub mod InputLines
 pub mod LineInHand
+pub mod BehindRecords

@@ -22,7 +22,7 @@ use Rattle.listing.proofs.InputLines.{input-listed}
 
 -- ---- a newline
 
-kept-whole : (k : Kept) (a : StoreAnswer) (store : List ℕ) → storeAnswer a ≡ keptAnswer k → store ≡ keptBuffer k → kept (storeAnswer a) store ≡ k
+pub kept-whole : (k : Kept) (a : StoreAnswer) (store : List ℕ) → storeAnswer a ≡ keptAnswer k → store ≡ keptBuffer k → kept (storeAnswer a) store ≡ k
 kept-whole (kept b s) a store says leaves = rw (says, leaves)
 
 after-store : (s : Listed) (k : Kept) → afterAnswer s k .store ≡ keptBuffer k

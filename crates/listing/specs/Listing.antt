@@ -1,10 +1,13 @@
--- Document 01, end of "Bench examples": what the listing program counts. Assumes nothing.
+-- Document 01, end of "Bench examples": what the listing program counts; and the third line of document 02's Item 6. Assumes nothing.
+use mathlib.Core.Path.{_≡_}
 use mathlib.Core.Bool.{cond}
 use mathlib.Core.List.{List, [], _∷_, _++_, foldl}
-use Prim.Native.Nat.{ℕ, suc}
+use Prim.Native.Nat.{ℕ, suc, _+_}
 use lib.Dec.{eqb}
 use Rattle.droplet.specs.declared.card.Card.{Card}
-use Rattle.decoder.specs.Store.{Kept, kept, accepted, replaced, repeat, refusal, storeRead}
+use Rattle.droplet.specs.Questions.{cardRefusal}
+use Rattle.decoder.specs.Store.{records, Kept, kept, accepted, replaced, repeat, refusal, storeRead}
+use Rattle.decoder.specs.Demand3.{totalCount}
 
 -- "reads from standard input, one a line": the lines of some bytes, of which `line` is the one in hand. A newline, byte 10, ends
 -- a line, and may end an empty one: "an empty line is a read of length 0"
@@ -55,3 +58,13 @@ afterLine c weights s line = afterAnswer s (storeRead c weights (s .store) (s .c
 -- what the whole input comes to
 unfoldable pub listing : Card → List ℕ → List ℕ → List ℕ → Listed
 listing c weights store input = foldl (afterLine c weights) (noneListed store) (linesOf input)
+
+-- "behind", a blank and "the total over all records"
+unfoldable pub behind : Card → Listed → ℕ
+behind c s = totalCount (records (c .l) (s .count) (s .store))
+
+-- "for every list of reads from an empty shelf that total equals the reads answered without a refusal": those listed as accepted or repeated
+abbrev pub BehindAll : Type 0
+BehindAll =
+    (c : Card) (weights : List ℕ) → cardRefusal c weights ≡ 0 → (store input : List ℕ)
+    → behind c (listing c weights store input) ≡ listing c weights store input .accepted + listing c weights store input .repeated

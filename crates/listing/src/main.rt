@@ -1,11 +1,15 @@
 // The listing program of document 01: reads the pool card from pool.card and reads from standard input, one a line, and prints
-// how they were answered and what a restore from them finds.
+// how they were answered, what a restore from them finds, and how many reads are behind the records (document 02, Item 6).
+mod behind;
 mod input;
 mod tally;
 
+ghost use mathlib.Core.Path.{_≡_};
 ghost use Prim.Native.Nat.{_≤_};
 ghost use lib.ListN.{length};
 ghost use Rattle.io.specs.Counts.{Counts};
+ghost use Rattle.droplet.specs.Questions.{cardRefusal};
+use behind::total_behind;
 use decoder::restorer::RestoreAnswer;
 use decoder::restorer::Sheet;
 use decoder::restorer::restore;
@@ -55,12 +59,17 @@ fn print_sheet(segments: u32, sheet: Sheet) {
     io::write_all(STDOUT_FILENO, b"\n");
 }
 
+fn print_behind(total: u64) {
+    print(b"behind ", total);
+    io::write_all(STDOUT_FILENO, b"\n");
+}
+
 fn print_refusal(text: &[u8], n: u8) {
     print(text, n as u64);
     io::write_all(STDOUT_FILENO, b"\n");
 }
 
-// Lists the reads of a pool, and restores from those on the store.
+// Lists the reads of a pool, and restores from those on the store. The card's questions have been asked.
 fn list_pool(
     card: Card,
     segments: u32,
@@ -72,13 +81,15 @@ fn list_pool(
     marks: &mut [u8],
     list: &mut [u32],
 )
-    requires { ⌜ 289 ≤ length (now line) ⌝ }
+    requires { ⌜ (289 ≤ length (now line)) × (cardRefusal card (now weights) ≡ 0) ⌝ }
 {
     let t = list_reads(card, weights, chunk, line, store);
+    let total = total_behind(store, card.l as usize, t.count);
     match restore(card, weights, store, t.count, file, marks, list) {
         RestoreAnswer::Restored(sheet) => {
             print_tally(t);
             print_sheet(segments, sheet);
+            print_behind(total);
         }
         // No restore is refused here: the card is accepted, the count is that of this store, no legal read has seed 0, and the
         // lent buffers are large enough for every card that is not too large.

@@ -83,9 +83,14 @@ impl Numbers {
         4 + usize::from(self.l)
     }
 
-    /// Seed, payload and state, as they stand on a shelf.
+    /// Seed, payload, state and count, as they stand on a shelf.
     pub fn record(&self) -> usize {
-        5 + usize::from(self.l)
+        9 + usize::from(self.l)
+    }
+
+    /// Where a record's state byte stands, between its payload and its count.
+    pub fn state_at(&self) -> usize {
+        4 + usize::from(self.l)
     }
 
     /// The contents of the card's first three fields.

@@ -1,10 +1,12 @@
 -- `run` meets its contract: an accepted card has its numbers in range, and weights from byte 20 to where the third field ends. Assumes
 -- nothing.
-use Prim.Native.Nat.{_≤_}
+use mathlib.Core.Path.{_≡_}
+use mathlib.Core.List.{List}
+use Prim.Native.Nat.{ℕ, _-_, _≤_}
 use native.Mathlib.Omega.{arith}
-use lib.ListN.{length}
+use lib.ListN.{length, take, drop}
 use borrow.Author.Needs.{needs}
-use Rattle.droplet.specs.PoolCard.{weightsStart}
+use Rattle.droplet.specs.PoolCard.{numberAt, weightsStart, weightsEnd, cardWeights}
 use Rattle.droplet.proofs.CardBytes.{head-before-end, head-there}
 use Rattle.droplet.proofs.LegalCard.{Sizes, legal}
 use Rattle.droplet.proofs.CardAnswers.{Accepted, read}
@@ -40,6 +42,18 @@ within c =
     let end = c .weights-end .ensures .0 in
     (omega (arith, end, head-before-end bytes), omega (arith, end, accepted known .long))
 
+-- they are the card's weights
+weights-part : (bytes : List ℕ) (end : ℕ) → end ≡ weightsEnd bytes → take (end - weightsStart) (drop weightsStart bytes) ≡ cardWeights bytes
+unfolding weightsEnd
+weights-part bytes end e = let size : end - weightsStart ≡ numberAt 18 2 bytes = omega arith in rw size
+
+list-pool-requires : tie.Need-list-pool-requires
+list-pool-requires c κs =
+    let end = c .before .before .before .before .before .before .before in
+    let known = end .before .before .before .before in
+    let s = known .before .before .before .before .before .before .before .before .before .before .before in
+    (s .pre, rw (weights-part (s .args .bytes .now) _ (end .weights-end .ensures .0)) (accepted known .unrefused))
+
 pub run-spec : {M : Type 1} → statement M
 run-spec =
     tie.close
@@ -56,7 +70,7 @@ run-spec =
     (λ c. within c .0)
     (λ c. within c .0)
     (λ c. within c .1)
-    (λ c κs. search needs)
+    list-pool-requires
     (λ c. search needs)
     (λ c κs. search needs)
     (λ c. search needs)

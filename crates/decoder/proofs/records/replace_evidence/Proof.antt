@@ -1,13 +1,12 @@
 -- `replace_evidence` meets its contract: payload and state are written over the part behind the seed. Assumes nothing.
-use mathlib.Core.Path.{_≡_, sym}
+use mathlib.Core.Path.{_≡_}
 use mathlib.Core.Bool.{Bool}
 use mathlib.Core.List.{List, _++_}
 use Prim.Native.Nat.{ℕ, _+_, _-_, _≤_}
 use native.Mathlib.Omega.{arith}
-use lib.ListN.{length, take, drop, take-append-drop}
-use lib.Seq.{length-take-le}
-use Rattle.field.proofs.LentParts.{put-back}
+use lib.ListN.{length, take, drop}
 use Rattle.decoder.specs.Store.{evidenceText, overwritten}
+use Rattle.decoder.proofs.BufferParts.{part-written}
 use Rattle.decoder.proofs.RecordBytes.{parts-fit, evidence-length}
 use borrow.Author.Needs.{needs}
 use Rattle.decoder.proofs.records.replace_evidence.Statement.{statement}
@@ -20,10 +19,7 @@ module _ (store part payload : List ℕ) (clean : Bool) (from : ℕ) where
   -- the part from there on came back as `part`
   replaced : from ≤ length store → part ≡ new ++ drop (length payload + 1) (take (length store - from) (drop from store))
       → take from store ++ (part ++ drop (length store - from) (drop from store)) ≡ overwritten from new store
-  unfolding overwritten
-  replaced h e =
-      put-back (take from store) new store store part from (length-take-le from store h) (sym (take-append-drop from store))
-      (rw (evidence-length payload clean) e)
+  replaced h e = part-written store part new from h (rw (evidence-length payload clean) e)
 
 sub-put-evidence : tie.Need-sub-put-evidence
 sub-put-evidence c = let fits = parts-fit (length (c .before .before .args .payload .now)) in search needs

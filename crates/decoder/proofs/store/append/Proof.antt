@@ -22,9 +22,9 @@ module _ (buffer : List ℕ) (count seed : ℕ) (payload : List ℕ) (clean : Bo
   at = count * width
 
   abbrev new : Record
-  new = record { seed = seed; payload = payload; clean = clean }
+  new = record { read = record { seed = seed; payload = payload; clean = clean }; count = 1 }
 
-  full : length buffer - at < width → Keeps (appended (length payload) buffer count new) (Refused 16) buffer
+  full : length buffer - at < width → Keeps (appended (length payload) buffer count (new .read)) (Refused 16) buffer
   unfolding appended
   full h =
       let less : length buffer < suc count * recordBytes (length payload) = rw (← wide, suc-mul) (omega arith) in
@@ -36,7 +36,7 @@ module _ (buffer : List ℕ) (count seed : ℕ) (payload : List ℕ) (clean : Bo
 
   more : (part : List ℕ) → width ≤ length buffer - at
       → part ≡ recordText new ++ drop (recordBytes (length payload)) (take lent (drop at buffer))
-      → Keeps (appended (length payload) buffer count new) (Accepted (count + 1)) (take at buffer ++ (part ++ drop lent (drop at buffer)))
+      → Keeps (appended (length payload) buffer count (new .read)) (Accepted (count + 1)) (take at buffer ++ (part ++ drop lent (drop at buffer)))
   unfolding appended overwritten
   more part h e =
       let size : lent ≡ width = omega arith in

@@ -10,7 +10,7 @@ use Rattle.strand.specs.ReadCheck.{Reading, refused, lettersReading, numberOf, 
 use Rattle.strand.proofs.LetThrough.{letters-payload}
 use Rattle.strand.proofs.ReadAnswers.{Accepts, accepts, refuses}
 use Rattle.decoder.specs.declared.store.StoreAnswer.the-variants.{Refused}
-use Rattle.decoder.specs.Store.{storeRecord, dropletRecord, storeReading}
+use Rattle.decoder.specs.Store.{storeRecord, dropletRead, storeReading}
 use Rattle.decoder.specs.StoreLoops.{Keeps, refusalNumber}
 use Rattle.decoder.proofs.store.offer.Statement.{statement}
 use Rattle.decoder.proofs.store.offer.Tie as tie
@@ -23,7 +23,7 @@ handed-on L buffer count reading n e = rw e (record { says = refl; leaves = refl
 -- the droplet in an answer, with the number of bytes corrected
 taken-in : (L : ℕ) (buffer : List ℕ) (count : ℕ) (reading : Reading) (r : ReadAnswer) (seed : ℕ) → Answers reading r
     → Accepts L reading seed (r .payload)
-    → storeReading L buffer count reading ≡ storeRecord L buffer count (dropletRecord seed (take L (r .payload)) (r .corrected))
+    → storeReading L buffer count reading ≡ storeRecord L buffer count (dropletRead seed (take L (r .payload)) (r .corrected))
 unfolding storeReading
 taken-in L buffer count reading r seed answers a =
     let number : r .corrected ≡ a .number = answers .counts ∙ ap numberOf (a .accepted) in

@@ -17,23 +17,25 @@ use Rattle.droplet.specs.Questions.{cardRefusal}
 use Rattle.strand.specs.ReadCheck.{Reading, droplet, refused, readCheck}
 use Rattle.strand.specs.Writer.{payloadFor}
 use Rattle.strand.proofs.NearReads.{clean-read}
-use Rattle.decoder.specs.Store.{Record, dropletRecord}
-use Rattle.decoder.specs.Restorer.{droplets}
-use Rattle.decoder.specs.Demand3.{firstSeeds, storedSeeds, seedsOf, Call, readsOf, Chained, GivesAll}
-use Rattle.decoder.specs.Vault.{Among, AllAmong, LentStore, storeAfter, recordsOn, dropletsOn, legalOf, legalSeeds, RoomForAll, PrintedStrand, MisreadStrand, LegalPrinted, SeedPrinted, CleanPrinted, CleanOffered, Job}
+use Rattle.decoder.specs.Store.{LegalRead, dropletRead}
+use Rattle.decoder.specs.Demand3.{firstSeeds, storedSeeds, seedsOf, Call, readsOf, Chained, answered, not20, lastBuffer, lastCount, readsWith, takenReads, GivesAll}
+use Rattle.decoder.specs.Among.{Among, AllAmong}
+use Rattle.vault.specs.Vault.{LentStore, storeAfter, readsOn, dropletsOn, legalOf, legalSeeds, RoomForAll, PrintedStrand, MisreadStrand, LegalPrinted, SeedPrinted, CleanPrinted, CleanOffered, Job}
 use Rattle.decoder.proofs.AllOf.{all-map, all-mapped, all-among, among-all, among-mapped}
 use Rattle.decoder.proofs.LegalRead.{InReading}
-use Rattle.decoder.proofs.OfferedReads.{legal-all, legal-there, with-seed, first-has}
+use Rattle.vault.proofs.OfferedReads.{legal-all, with-all, with-there, with-seed, first-has}
 use Rattle.decoder.proofs.BestReads.{best-all, best-clean}
 use Rattle.decoder.proofs.StoreCall.{room, fitted}
-use Rattle.decoder.proofs.StoreChain.{left-order, left-best}
-use Rattle.decoder.proofs.PrintedReads.{printed-legal}
+use Rattle.decoder.proofs.StoreChain.{left-order, left-best, left-legal}
+use Rattle.decoder.proofs.NeverRefused20.{answer-not20}
+use Rattle.vault.proofs.PrintedReads.{printed-legal}
+use Rattle.decoder.proofs.StoreDroplets.{droplets-read}
 
 -- a record with the file's payload for its seed, and one that has it if its read was clean
-abbrev pub OfFile : Card → List ℕ → List ℕ → Record → Type 0
+abbrev pub OfFile : Card → List ℕ → List ℕ → LegalRead → Type 0
 OfFile c ws file r = payloadFor c ws file (r .seed) ≡ r .payload
 
-abbrev pub CleanOfFile : Card → List ℕ → List ℕ → Record → Type 0
+abbrev pub CleanOfFile : Card → List ℕ → List ℕ → LegalRead → Type 0
 CleanOfFile c ws file r = r .clean ≡ true → OfFile c ws file r
 
 -- ---- what one reading says
@@ -71,13 +73,13 @@ module _ (c : Card) (ws file : List ℕ) (bytes : AllBytes file) (read : List �
 -- ---- the same of readings, as what holds of their records
 
 module _ (c : Card) (ws : List ℕ) where
-  reading-all : (P : Record → Type 0) (read : List ℕ) → ((s : ℕ) (p : List ℕ) (k : ℕ) → readCheck c ws read ≡ droplet s p k → P (dropletRecord s p k))
+  reading-all : (P : LegalRead → Type 0) (read : List ℕ) → ((s : ℕ) (p : List ℕ) (k : ℕ) → readCheck c ws read ≡ droplet s p k → P (dropletRead s p k))
       → (o : Reading) → readCheck c ws read ≡ o → InReading P o
   reading-all P read f (droplet s p k) e = f s p k e
   reading-all P read f (refused n) e = tt
 
-  readings : (P : Record → Type 0) (Q : List ℕ → Type 0)
-      → ((read : List ℕ) → Q read → (s : ℕ) (p : List ℕ) (k : ℕ) → readCheck c ws read ≡ droplet s p k → P (dropletRecord s p k))
+  readings : (P : LegalRead → Type 0) (Q : List ℕ → Type 0)
+      → ((read : List ℕ) → Q read → (s : ℕ) (p : List ℕ) (k : ℕ) → readCheck c ws read ≡ droplet s p k → P (dropletRead s p k))
       → (reads : List (List ℕ)) → All Q reads → All (λ read. InReading P (readCheck c ws read)) reads
   readings P Q f = all-map Q (λ read. InReading P (readCheck c ws read)) (λ read h. reading-all P read (f read h) (readCheck c ws read) refl)
 
@@ -100,30 +102,32 @@ module _ (c : Card) (ws : List ℕ) where
 -- ---- the store
 
 -- the records that calls leave
-abbrev left : Card → List ℕ → List ℕ → List Call → List Record
-left c ws lent calls = recordsOn c ws (storeAfter lent calls)
+abbrev left : Card → List ℕ → List ℕ → List Call → List LegalRead
+left c ws lent calls = readsOn c ws (storeAfter lent calls)
 
 module _ (c : Card) (ws : List ℕ) (fine : cardRefusal c ws ≡ 0) where
   module _ (lent : List ℕ) (calls : List Call) (chained : Chained c ws lent 0 calls) where
     abbrev reads : List (List ℕ)
     reads = readsOf calls
 
-    -- what holds of all legal reads holds of each record
-    left-all : (P : Record → Type 0) → All P (legalOf c ws calls) → (r : Record) → Among r (left c ws lent calls) → P r
-    left-all P h r a = best-all (r .seed) (legalOf c ws calls) P r h (all-among _ (left c ws lent calls) (left-best c ws fine lent calls chained) r a)
-
-    -- of a seed with a clean read the record is clean
-    offered-clean : (r : Record) → Among r (left c ws lent calls) → CleanOffered c ws reads (r .seed) → r .clean ≡ true
-    offered-clean r a k =
-        best-clean (r .seed) (legalOf c ws calls) r (dropletRecord (r .seed) (k .payload) 0)
-        (legal-there c ws reads (k .read) (r .seed) (k .payload) 0 (k .among) (k .clean)) (rw (eq-eqb (r .seed) (r .seed) refl))
+    -- what holds of all legal reads holds of that of each record
+    left-all : (P : LegalRead → Type 0) → All P (legalOf c ws calls) → (r : LegalRead) → Among r (left c ws lent calls) → P r
+    left-all P h r a =
+        best-all (r .seed) (takenReads c ws calls) P r (with-all c ws answered P calls h)
         (all-among _ (left c ws lent calls) (left-best c ws fine lent calls chained) r a)
 
+    -- of a seed with a clean read that is not refused under 20 the record is clean
+    offered-clean : (r : LegalRead) → Among r (left c ws lent calls) → CleanOffered c ws calls (r .seed) → r .clean ≡ true
+    offered-clean r a k =
+        best-clean (r .seed) (readsWith not20 c ws calls) r (dropletRead (r .seed) (k .payload) 0)
+        (with-there c ws not20 calls (k .call) (r .seed) (k .payload) 0 (k .among) (answer-not20 (k .call .answer) (k .not-20)) (k .clean))
+        (rw (eq-eqb (r .seed) (r .seed) refl)) (all-among _ (left c ws lent calls) (left-legal c ws fine lent calls chained) r a)
+
     module _ (file : List ℕ) (bytes : AllBytes file) where
-      clean-ours : CleanPrinted c ws file reads → (r : Record) → Among r (left c ws lent calls) → CleanOfFile c ws file r
+      clean-ours : CleanPrinted c ws file reads → (r : LegalRead) → Among r (left c ws lent calls) → CleanOfFile c ws file r
       clean-ours printed = left-all (CleanOfFile c ws file) (legal-all c ws (CleanOfFile c ws file) reads (clean-readings c ws file bytes reads printed))
 
-      seed-ours : (r : Record) → Among r (left c ws lent calls) → SeedPrinted c ws file reads (r .seed) → OfFile c ws file r
+      seed-ours : (r : LegalRead) → Among r (left c ws lent calls) → SeedPrinted c ws file reads (r .seed) → OfFile c ws file r
       seed-ours r a near =
           left-all (λ x. x .seed ≡ r .seed → OfFile c ws file x)
           (legal-all c ws (λ x. x .seed ≡ r .seed → OfFile c ws file x) reads (seed-readings c ws file bytes (r .seed) reads near)) r a refl
@@ -133,14 +137,19 @@ module _ (c : Card) (ws : List ℕ) (fine : cardRefusal c ws ≡ 0) where
   clean-records file lent calls bytes chained printed =
       among-all (CleanOfFile c ws file) (left c ws lent calls) (clean-ours lent calls chained file bytes printed)
 
+  -- a store whose records are all droplets of the file
+  reads-give : (file : List ℕ) (store : LentStore) → All (OfFile c ws file) (readsOn c ws store) → GivesAll (c .l) file (dropletsOn c ws store)
+  unfolding GivesAll
+  reads-give file store h =
+      rw (droplets-read c ws (store .buffer) (store .count))
+      (all-mapped (λ d. payload (c .l) file (d .segments) ≡ d .payload) _ (readsOn c ws store) h)
+
   -- a store of such records alone
   pub clean-gives : (file lent : List ℕ) (calls : List Call) (store : LentStore) → AllBytes file → Chained c ws lent 0 calls
-      → CleanPrinted c ws file (readsOf calls) → All (λ r. (r .clean ≡ true) × Among r (left c ws lent calls)) (recordsOn c ws store)
+      → CleanPrinted c ws file (readsOf calls) → All (λ r. (r .clean ≡ true) × Among r (left c ws lent calls)) (readsOn c ws store)
       → GivesAll (c .l) file (dropletsOn c ws store)
-  unfolding GivesAll droplets
   clean-gives file lent calls store bytes chained printed own =
-      all-mapped (λ d. payload (c .l) file (d .segments) ≡ d .payload) _ (recordsOn c ws store)
-      (all-map _ (OfFile c ws file) (λ r h. clean-ours lent calls chained file bytes printed r (h .1) (h .0)) (recordsOn c ws store) own)
+      reads-give file store (all-map _ (OfFile c ws file) (λ r h. clean-ours lent calls chained file bytes printed r (h .1) (h .0)) (readsOn c ws store) own)
 
   -- ---- jobs
 
@@ -156,7 +165,7 @@ module _ (c : Card) (ws : List ℕ) (fine : cardRefusal c ws ≡ 0) where
         }
 
     pub clean-jobs : CleanPrinted c ws file (readsOf calls)
-        → All (λ r. CleanOffered c ws (readsOf calls) (r .seed) ⊎ SeedPrinted c ws file (readsOf calls) (r .seed)) (left c ws lent calls)
+        → All (λ r. CleanOffered c ws calls (r .seed) ⊎ SeedPrinted c ws file (readsOf calls) (r .seed)) (left c ws lent calls)
         → Job c ws file lent calls
     clean-jobs printed offered =
         record {
@@ -168,16 +177,13 @@ module _ (c : Card) (ws : List ℕ) (fine : cardRefusal c ws ≡ 0) where
         }
 
   module _ (file lent : List ℕ) (calls : List Call) (job : Job c ws file lent calls) where
-    record-ours : (r : Record) → Among r (left c ws lent calls) → OfFile c ws file r
+    record-ours : (r : LegalRead) → Among r (left c ws lent calls) → OfFile c ws file r
     record-ours r a =
         ⊎-elim (λ clean. clean-ours lent calls (job .chained) file (job .bytes) (job .clean) r a clean)
         (λ near. seed-ours lent calls (job .chained) file (job .bytes) r a near) (all-among _ (left c ws lent calls) (job .seeds) r a)
 
     pub store-ours : GivesAll (c .l) file (dropletsOn c ws (storeAfter lent calls))
-    unfolding GivesAll droplets
-    store-ours =
-        all-mapped (λ d. payload (c .l) file (d .segments) ≡ d .payload) _ (left c ws lent calls)
-        (among-all (OfFile c ws file) (left c ws lent calls) record-ours)
+    store-ours = reads-give file (storeAfter lent calls) (among-all (OfFile c ws file) (left c ws lent calls) record-ours)
 
   -- ---- two lists of calls
 
@@ -190,25 +196,25 @@ module _ (c : Card) (ws : List ℕ) (fine : cardRefusal c ws ≡ 0) where
         let first = firstSeeds [] (legalOf c ws calls′) in
         left-order c ws fine lent′ calls′ (job′ .chained) ∙ take-all (room (c .l) lent′) first (fitted (c .l) lent′ (length first) (omega (arith, fits)))
 
-    same-seed : (x : Record) → Among x (left c ws lent calls) → (y : Record) × Among y (left c ws lent′ calls′) × (y .seed ≡ x .seed)
+    same-seed : (x : LegalRead) → Among x (left c ws lent calls) → (y : LegalRead) × Among y (left c ws lent′ calls′) × (y .seed ≡ x .seed)
     same-seed x a =
         let here : Among (x .seed) (legalSeeds c ws calls)
         = left-all lent calls (job .chained) (λ y. Among (y .seed) (legalSeeds c ws calls)) (seeds-there (legalOf c ws calls)) x a in
         with-seed (x .seed) (left c ws lent′ calls′)
         (ap (member (x .seed)) seeds-whole ∙ first-has (x .seed) [] (legalOf c ws calls′) (among (x .seed) here))
       where
-        seeds-there : (rs : List Record) → All (λ y. Among (y .seed) (seedsOf rs)) rs
+        seeds-there : (rs : List LegalRead) → All (λ y. Among (y .seed) (seedsOf rs)) rs
         seeds-there [] = tt
         seeds-there (r ∷ rs) = (inl refl, all-map _ _ (λ y b. inr b) rs (seeds-there rs))
 
     pub droplets-among : AllAmong (dropletsOn c ws (storeAfter lent calls)) (dropletsOn c ws (storeAfter lent′ calls′))
-    unfolding droplets
     droplets-among =
-        among-mapped _ (left c ws lent calls) (left c ws lent′ calls′)
+        rw (droplets-read c ws (lastBuffer lent calls) (lastCount 0 calls), droplets-read c ws (lastBuffer lent′ calls′) (lastCount 0 calls′))
+        (among-mapped _ (left c ws lent calls) (left c ws lent′ calls′)
         (λ x a.
         let there = same-seed x a in
         let y = there .0 in
         let e : x .seed ≡ y .seed = sym (there .2) in
         let p : x .payload ≡ y .payload
         = sym (record-ours file lent calls job x a) ∙ ap (payloadFor c ws file) e ∙ record-ours file lent′ calls′ job′ y (there .1) in
-        (y, there .1, λ i. record { segments = segmentsOf ws (segmentCount c) (e i); payload = p i }))
+        (y, there .1, λ i. record { segments = segmentsOf ws (segmentCount c) (e i); payload = p i })))

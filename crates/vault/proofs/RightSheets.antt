@@ -17,17 +17,18 @@ use Rattle.droplet.specs.Questions.{cardRefusal}
 use Rattle.droplet.specs.Droplet.{segment, payload}
 use Rattle.droplet.proofs.LegalCard.{legal}
 use Rattle.droplet.proofs.Payload.{segment-at}
 use Rattle.decoder.specs.declared.restorer.Sheet.{Sheet}
 use Rattle.decoder.specs.Restorer.{Droplet, State, marked, missing, isNil, contradicts, contradictions}
 use Rattle.decoder.specs.Demand3.{GivesAll}
-use Rattle.decoder.specs.Vault.{AllAmong, LentStore, dropletsOn, SheetFrom, RightSheet, NoBetter, SameMarks}
+use Rattle.decoder.specs.Among.{AllAmong}
+use Rattle.vault.specs.Vault.{LentStore, dropletsOn, SheetFrom, RightSheet, NoBetter, SameMarks}
 use Rattle.decoder.proofs.MarkCounts.{present-all}
 use Rattle.decoder.proofs.PoolShapes.{IsDroplet, stateAfter}
 use Rattle.decoder.proofs.FillKeeps.{peelAll-sized}
 use Rattle.decoder.proofs.PayloadParts.{payload-same}
 use Rattle.decoder.proofs.PresentRight.{present-right}
 use Rattle.decoder.proofs.PeelingOrder.{more-present, same-marks}
 use Rattle.decoder.proofs.SoundRestore.{Ended, restore-ends}
 
 -- ---- no contradictions
 

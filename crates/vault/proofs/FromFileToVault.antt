@@ -2,14 +2,14 @@
 -- restore, under one accepted card. Assumes nothing.
 use Rattle.droplet.specs.PoolCard.{cardWeights}
 use Rattle.droplet.proofs.CardAnswers.{reading-accepted}
-use Rattle.decoder.specs.Vault.{storeAfter, FromFileToVault}
+use Rattle.vault.specs.Vault.{storeAfter, FromFileToVault}
 use Rattle.decoder.proofs.StoreChain.{chain-exists}
-use Rattle.decoder.proofs.PrintedReads.{printed-legal}
-use Rattle.decoder.proofs.OfferedReads.{further-reads}
-use Rattle.decoder.proofs.FileReads.{clean-records, clean-gives, jobs, clean-jobs, store-ours, droplets-among}
-use Rattle.decoder.proofs.NeverRefused15.{clean-never-15, never-15}
-use Rattle.decoder.proofs.CustomersFile.{interleaves, interleaved, original-back}
-use Rattle.decoder.proofs.RightSheets.{right-sheet, more-droplets, same-droplets}
+use Rattle.vault.proofs.PrintedReads.{printed-legal}
+use Rattle.vault.proofs.OfferedReads.{further-reads}
+use Rattle.vault.proofs.FileReads.{clean-records, clean-gives, jobs, clean-jobs, store-ours, droplets-among}
+use Rattle.vault.proofs.NeverRefused15.{clean-never-15, never-15}
+use Rattle.vault.proofs.CustomersFile.{interleaves, interleaved, original-back}
+use Rattle.vault.proofs.RightSheets.{right-sheet, more-droplets, same-droplets}
 
 pub from-file-to-vault : FromFileToVault
 from-file-to-vault card c D e =

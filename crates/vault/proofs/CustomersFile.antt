@@ -14,7 +14,7 @@ use Rattle.interleave.specs.declared.file.ReorderAnswer.the-variants.{Done}
 use Rattle.interleave.specs.InterleaveCalls.{done, reorderAnswer, fileReordered}
 use Rattle.interleave.proofs.ReorderAnswers.{moved, goes-through}
 use Rattle.interleave.proofs.InterleaveRoundTrip.{file-bytes, written, written-length, calls-give-back}
-use Rattle.decoder.specs.Vault.{InterleavedFrom, OriginalBack}
+use Rattle.vault.specs.Vault.{InterleavedFrom, OriginalBack}
 
 module _ (c : Card) (ws : List ℕ) (fine : cardRefusal c ws ≡ 0) where
   -- a call of which source and target are the file itself

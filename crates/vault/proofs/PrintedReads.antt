@@ -10,7 +10,7 @@ use Rattle.strand.specs.LegalStrand.{bytesApart, NearStrand}
 use Rattle.strand.proofs.NearReads.{near-accepted}
 use Rattle.strand.proofs.PrintedRuns.{seedOf, line-read}
 use Rattle.strand.specs.Writer.{payloadFor}
-use Rattle.decoder.specs.Vault.{PrintedStrand}
+use Rattle.vault.specs.Vault.{PrintedStrand}
 
 module _ (c : Card) (ws file : List ℕ) (bytes : AllBytes file) (strand : List ℕ) where
   pub printed-legal : PrintedStrand c ws file strand → (s : ℕ) × (readCheck c ws strand ≡ droplet s (payloadFor c ws file s) 0)

@@ -6,7 +6,7 @@
 -- Item 14: "what the restorer promises is promised of the dealt file"), and the last step gives the customer's. Assumes nothing.
 use mathlib.Core.Path.{_≡_}
 use mathlib.Core.Bool.{true}
-use mathlib.Core.List.{List, [], _∷_, _++_}
+use mathlib.Core.List.{List, [], _++_}
 use mathlib.Core.Logic.{_⊎_}
 use Prim.Native.Nat.{ℕ, _*_, _<_, _≤_}
 use lib.ListN.{length, take}
@@ -21,21 +21,13 @@ use Rattle.strand.specs.ReadCheck.{droplet, readCheck}
 use Rattle.strand.specs.LegalStrand.{bytesApart, NearStrand}
 use Rattle.strand.specs.Writer.{payloadFor}
 use Rattle.strand.specs.WriterRuns.{PrintedRun, printedLine}
 use Rattle.decoder.specs.declared.store.StoreAnswer.the-variants as reply
 use Rattle.decoder.specs.declared.restorer.Sheet.{Sheet}
 use Rattle.decoder.specs.declared.restorer.RestoreAnswer.the-variants as sheet
-use Rattle.decoder.specs.Store.{Record, recordBytes, records}
+use Rattle.decoder.specs.Store.{LegalRead, recordBytes, records}
 use Rattle.decoder.specs.Restorer.{Droplet, droplets, marked, present, RestorePromise}
-use Rattle.decoder.specs.Demand3.{legalReads, firstSeeds, seedsOf, Call, readsOf, Chained, lastBuffer, lastCount, GivesAll}
-
--- x stands in a list
-abbrev pub Among : {A : Type 0} → A → List A → Type 0
-Among x [] = ⊥
-Among x (y ∷ ys) = (x ≡ y) ⊎ Among x ys
-
--- each element of a list stands in another, in whatever order and number
-abbrev pub AllAmong : {A : Type 0} → List A → List A → Type 0
-AllAmong {A} xs ys = (x : A) → Among x xs → Among x ys
+use Rattle.decoder.specs.Among.{Among, AllAmong}
+use Rattle.decoder.specs.Demand3.{legalReads, firstSeeds, seedsOf, readsIn, Call, readsOf, Chained, lastBuffer, lastCount, GivesAll}
 
 -- "A shelf is a lent buffer and a count of records from its start"
 pub record LentStore : Type 0 where
@@ -47,16 +39,16 @@ abbrev pub storeAfter : List ℕ → List Call → LentStore
 storeAfter lent calls = record { buffer = lastBuffer lent calls; count = lastCount 0 calls }
 
 module _ (c : Card) (weights : List ℕ) where
-  -- the records in a store
-  abbrev pub recordsOn : LentStore → List Record
-  recordsOn store = records (c .l) (store .count) (store .buffer)
+  -- what the records in a store hold of their reads
+  abbrev pub readsOn : LentStore → List LegalRead
+  readsOn store = readsIn (records (c .l) (store .count) (store .buffer))
 
   -- "The droplets on a shelf are its records, each with the set that its seed picks"
   abbrev pub dropletsOn : LentStore → List Droplet
   dropletsOn store = droplets c weights (store .buffer) (store .count)
 
   -- the legal ones of the reads offered
-  abbrev pub legalOf : List Call → List Record
+  abbrev pub legalOf : List Call → List LegalRead
   legalOf calls = legalReads c weights (readsOf calls)
 
   -- the seeds that they have
@@ -96,12 +88,13 @@ module _ (c : Card) (weights : List ℕ) where
   abbrev pub CleanPrinted : List ℕ → List (List ℕ) → Type 0
   CleanPrinted file reads = All (λ read. (s : ℕ) (p : List ℕ) → readCheck c weights read ≡ droplet s p 0 → PrintedStrand file read) reads
 
-  -- a clean read of a seed among some reads
-  pub record CleanOffered (reads : List (List ℕ)) (s : ℕ) : Type 0 where
-    pub read : List ℕ
+  -- a clean read of a seed among those that some calls offer, and not refused under 20 (demand 3 says when no read is)
+  pub record CleanOffered (calls : List Call) (s : ℕ) : Type 0 where
+    pub call : Call
     pub payload : List ℕ
-    pub among : Among read reads
-    pub clean : readCheck c weights read ≡ droplet s payload 0
+    pub among : Among call calls
+    pub clean : readCheck c weights (call .read) ≡ droplet s payload 0
+    pub not-20 : call .answer ≡ reply.Refused 20 → ⊥
 
   -- a job: a file of F bytes, and store calls from an empty store, a buffer of any length and bytes
   pub record Job (file lent : List ℕ) (calls : List Call) : Type 0 where
@@ -112,7 +105,7 @@ module _ (c : Card) (weights : List ℕ) where
     pub clean : CleanPrinted file (readsOf calls)
     -- and each record in the store is of a clean read, whatever the corrected reads of its seed were; or else each legal read of its seed is
     -- near to a strand of the file
-    pub seeds : All (λ r. (r .clean ≡ true) ⊎ SeedPrinted file (readsOf calls) (r .seed)) (recordsOn (storeAfter lent calls))
+    pub seeds : All (λ r. (r .clean ≡ true) ⊎ SeedPrinted file (readsOf calls) (r .seed)) (readsOn (storeAfter lent calls))
 
   -- the customer's own file of F bytes, dealt by a call: the first F bytes of what it leaves are the file that the writer is handed
   pub record InterleavedFrom (original file : List ℕ) : Type 0 where
@@ -179,7 +172,7 @@ module _ (c : Card) (weights : List ℕ) where
     -- are near to strands of the file
     pub clean-jobs : (file lent : List ℕ) (calls : List Call) → length file ≡ c .f → AllBytes file → Chained c weights lent 0 calls
         → CleanPrinted file (readsOf calls)
-        → All (λ r. CleanOffered (readsOf calls) (r .seed) ⊎ SeedPrinted file (readsOf calls) (r .seed)) (recordsOn (storeAfter lent calls))
+        → All (λ r. CleanOffered calls (r .seed) ⊎ SeedPrinted file (readsOf calls) (r .seed)) (readsOn (storeAfter lent calls))
         → Job file lent calls
     -- every strand that the writer prints is a legal read: its seed, and the file's payload for it; and a read that is damaged in at most
     -- R/2 of its bytes is always accepted, with that seed and payload and the number of bytes
@@ -189,11 +182,11 @@ module _ (c : Card) (weights : List ℕ) where
         → readCheck c weights read ≡ droplet s (payloadFor c weights file s) (bytesApart strand read))
     -- a record of a clean read is a droplet of the file, whatever the other reads were, if every clean legal read is a strand of the file
     pub clean-records : (file lent : List ℕ) (calls : List Call) → AllBytes file → Chained c weights lent 0 calls → CleanPrinted file (readsOf calls)
-        → All (λ r. r .clean ≡ true → payloadFor c weights file (r .seed) ≡ r .payload) (recordsOn (storeAfter lent calls))
+        → All (λ r. r .clean ≡ true → payloadFor c weights file (r .seed) ≡ r .payload) (readsOn (storeAfter lent calls))
     -- and every sheet that is restored from such records alone, in a store of their own, in whatever order and number, is right
     pub clean-back : (file lent : List ℕ) (calls : List Call) (store : LentStore) → length file ≡ c .f → AllBytes file
         → Chained c weights lent 0 calls → CleanPrinted file (readsOf calls)
-        → All (λ r. (r .clean ≡ true) × Among r (recordsOn (storeAfter lent calls))) (recordsOn store)
+        → All (λ r. (r .clean ≡ true) × Among r (readsOn (storeAfter lent calls))) (readsOn store)
         → (r : Sheet) (file′ marks′ : List ℕ) → SheetFrom store r file′ marks′ → RightSheet file r file′ marks′
     -- then no clean read is refused for a payload that differs from the store's
     pub clean-never-15 : (file lent : List ℕ) (calls : List Call) → AllBytes file → Chained c weights lent 0 calls → CleanPrinted file (readsOf calls)

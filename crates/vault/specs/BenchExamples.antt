@@ -2,7 +2,7 @@
 -- 12, 2 and 14, as rows of one list under one proposition, over the definitions that the contracts cite. Assumes nothing.
 use mathlib.Core.Path.{_≡_, refl}
 use mathlib.Core.Bool.{Bool, true, false}
-use mathlib.Core.List.{List, [], _∷_, _++_}
+use mathlib.Core.List.{List, [], _∷_, _++_, map}
 use Prim.Native.Nat.{ℕ, zero, suc, _+_, _*_}
 use lib.ListN.{replicate}
 use Rattle.field.specs.declared.generator.Draw.{Draw}
@@ -24,10 +24,10 @@ use Rattle.strand.specs.Sites.{siteBefore, siteAfter}
 use Rattle.strand.specs.Screen.{orderOf, withBase, longestOf, longestRun, gcCount, measureOf, verdict, wordVerdict, screenPasses}
 use Rattle.strand.specs.ReadCheck.{Reading, droplet, refused, strandReading, wordReading, lettersReading, readCheck, strandWord}
 use Rattle.strand.specs.Writer.{seedWord, oneTry, writeFrom, writerRun, ownRefusal, writerRefusal, Written, written, writerAnswer}
-use Rattle.decoder.specs.Store.{Record, accepted, replaced, repeat, Kept, kept, recordBytes, evidenceText, recordText, recordPayload, recordState, recordFrom, records, findSeed, overwritten, appended, compared, storeRecord, storeReading, storeRead}
+use Rattle.decoder.specs.Store.{LegalRead, Record, accepted, replaced, repeat, Kept, kept, recordBytes, evidenceText, recordText, recordPayload, recordState, recordCount, recordFrom, records, findSeed, overwritten, appended, countedAgain, unlessFull, compared, storeRecord, storeReading, storeRead}
 use Rattle.decoder.specs.Store.Stored.{refusal}
-use Rattle.decoder.specs.Demand3.{those, bestOf}
+use Rattle.decoder.specs.Demand3.{those, bestOf, countOf, countedRecord}
 use Rattle.decoder.specs.Restorer.{droplets, marked, missing, known, filled, filledBy, step, pass, present, peel, cleared, peelAll, contradicts, contradictions, hasSeed, roomRefusal, laterRefusal, restoreRefusal, restored, RestoreEnd, restoreEnd, restore}
 
 -- card P's bytes
 abbrev pub bytesP : List ℕ
@@ -76,7 +76,7 @@ pub data Row : Type 0 where
   answers : List ℕ → ℕ → Row
   restores : List (List ℕ) → RestoreEnd → Row
   stores : List ℕ → ℕ → List ℕ → Kept → Row
-  best : ℕ → List Record → List Record → Row
+  best : ℕ → List LegalRead → List Record → Row
   writes : Card → ℕ → ℕ → ℕ → Written → Row
   cutsCard : Card → List ℕ → List ℕ → CutEnd → Row
   deals : Card → List ℕ → List ℕ → ReorderEnd → Row
@@ -114,9 +114,9 @@ Holds (prints seed word letters longest g) =
 Holds (reads m lo letters reading) = readCheck (cardP m lo) (weights 2 1) letters ≡ reading
 Holds (steps s t) = seedAfter s ≡ t
 Holds (answers ws n) = cardRefusal (cardP 15 214) ws ≡ n
-Holds (restores offered end) = restoreAfter offered (replicate 20 7) 0 ≡ end
+Holds (restores offered end) = restoreAfter offered (replicate 31 7) 0 ≡ end
 Holds (stores buffer count read end) = storeRead (cardP 15 214) (weights 2 1) buffer count read ≡ end
-Holds (best s taken one) = bestOf s taken ≡ one
+Holds (best s taken one) = map (countedRecord taken) (bestOf s taken) ≡ one
 Holds (writes c start wanted budget answer) = writerAnswer c (weights 2 1) fileQ start wanted budget (wanted * (strandBases c + 1)) 2 ≡ answer
 Holds (cutsCard c ws buffer end) = cutCard c ws buffer ≡ end
 Holds (deals c source target end) = reorderFile false c (weights 2 1) source target ≡ end
@@ -146,15 +146,19 @@ twoBytesWrong = textLetters "TAAAAAAAAAAAAAACTGCAATCGTCAA"
 abbrev pub zeroMisread : List ℕ
 zeroMisread = textLetters "AAAAAAAAAAAAAAAAAAAAAAAAAAAC"
 
--- the record of seed 1 with a payload and a state byte, a mended one of seed 2, and the first as a `Record` (document 02, Item 5)
-abbrev pub bytesOf1 : ℕ → ℕ → List ℕ
-bytesOf1 payload state = 0 ∷ 0 ∷ 0 ∷ 1 ∷ payload ∷ state ∷ []
+-- the record of seed 1 with a payload, a state byte and a count below 256, one with a larger count, by its first and its last byte, a mended
+-- one of seed 2, and a read of seed 1 (document 02, Items 5 and 6)
+abbrev pub bytesOf1 : ℕ → ℕ → ℕ → List ℕ
+bytesOf1 payload state count = 0 ∷ 0 ∷ 0 ∷ 1 ∷ payload ∷ state ∷ 0 ∷ 0 ∷ 0 ∷ count ∷ []
+
+abbrev pub manyOf1 : ℕ → ℕ → ℕ → ℕ → List ℕ
+manyOf1 payload state first last = 0 ∷ 0 ∷ 0 ∷ 1 ∷ payload ∷ state ∷ first ∷ 255 ∷ 255 ∷ last ∷ []
 
 abbrev pub bytesOf2 : List ℕ
-bytesOf2 = 0 ∷ 0 ∷ 0 ∷ 2 ∷ 0x69 ∷ 1 ∷ []
+bytesOf2 = 0 ∷ 0 ∷ 0 ∷ 2 ∷ 0x69 ∷ 1 ∷ 0 ∷ 0 ∷ 0 ∷ 1 ∷ []
 
-abbrev pub recordOf1 : ℕ → Bool → Record
-recordOf1 payload clean = record { seed = 1; payload = payload ∷ []; clean = clean }
+abbrev pub readOf1 : ℕ → Bool → LegalRead
+readOf1 payload clean = record { seed = 1; payload = payload ∷ []; clean = clean }
 
 -- document 02, Item 1: strands that make a run with the site behind or before them or just miss one, and two with no run over 2 and
 -- over 1, though both sites have runs of 3
@@ -176,11 +180,12 @@ runsOfTwo = textLetters "ATCTCCATTAGCGTTCTTGGTAAGAGGA"
 abbrev pub noRuns : List ℕ
 noRuns = textLetters "GACAGTATCTCGCATGCTCTGCTATGCA"
 
--- the last thirty-one: a read with one byte wrong, whose mended strand has a run of 15 though the read has none over 11, one with two, and
+-- the last thirty-six: a read with one byte wrong, whose mended strand has a run of 15 though the read has none over 11, one with two, and
 -- one whose mended seed is 0 (document 02, Item 3); the first of these accepted as mended, its strand over it, over a mended record with
 -- another payload and a state of 7, and beside a clean one with another payload, the mended read beside a clean and a mended record with
--- the same payload and with another, the strand over the second of three records, of which the third has its seed too, and the best of
--- some reads (Item 5); ten strands of Q, with the strands dropped on the way under three pairs of limits, and a budget that is spent on a
+-- the same payload and with another, the strand over the second of three records, of which the third has its seed too; repeats of a count that
+-- carries and of the last but one, and a repeat, a clean read over a mended record and another payload where the count is full (Item 6); the
+-- best of some reads, with their number (Items 5 and 6); ten strands of Q, with the strands dropped on the way under three pairs of limits, and a budget that is spent on a
 -- strand with both faults (Item 12); card P cut into a buffer with a byte to spare and into one a byte short, and a plan that is refused
 -- before the buffer is (Item 2); the card with W 3 read and cut, its file dealt and undealt, each from a byte more into a byte more, and
 -- W 7, 1 and 8, a source and a target a byte short (Item 14)
@@ -218,18 +223,23 @@ rows =
     ∷ reads 14 214 oneByteWrong (refused 13)
     ∷ reads 15 214 twoBytesWrong (refused 11)
     ∷ reads 15 214 zeroMisread (refused 12)
-    ∷ stores (replicate 7 7) 0 oneByteWrong (kept (accepted 1) (bytesOf1 0xE4 1 ++ (7 ∷ [])))
-    ∷ stores (bytesOf1 0xE4 1 ++ (7 ∷ [])) 1 letters1 (kept (replaced 1) (bytesOf1 0xE4 0 ++ (7 ∷ [])))
-    ∷ stores (bytesOf1 0xE5 7) 1 letters1 (kept (replaced 1) (bytesOf1 0xE4 0))
-    ∷ stores (bytesOf1 0xE5 0) 1 letters1 (kept (refusal 15) (bytesOf1 0xE5 0))
-    ∷ stores (bytesOf1 0xE4 0) 1 oneByteWrong (kept (repeat 1) (bytesOf1 0xE4 0))
-    ∷ stores (bytesOf1 0xE4 7) 1 oneByteWrong (kept (repeat 1) (bytesOf1 0xE4 7))
-    ∷ stores (bytesOf1 0xE5 1) 1 oneByteWrong (kept (refusal 15) (bytesOf1 0xE5 1))
-    ∷ stores (bytesOf1 0xE5 0) 1 oneByteWrong (kept (refusal 15) (bytesOf1 0xE5 0))
-    ∷ stores (bytesOf2 ++ (bytesOf1 0xE5 1 ++ bytesOf1 0xE5 1)) 3 letters1
-    (kept (replaced 3) (bytesOf2 ++ (bytesOf1 0xE4 0 ++ bytesOf1 0xE5 1)))
-    ∷ best 1 (recordOf1 0xE5 false ∷ recordOf1 0xE4 true ∷ recordOf1 0xE6 true ∷ []) (recordOf1 0xE4 true ∷ [])
-    ∷ best 1 (recordOf1 0xE5 false ∷ recordOf1 0xE4 false ∷ []) (recordOf1 0xE5 false ∷ [])
+    ∷ stores (replicate 11 7) 0 oneByteWrong (kept (accepted 1) (bytesOf1 0xE4 1 1 ++ (7 ∷ [])))
+    ∷ stores (bytesOf1 0xE4 1 1 ++ (7 ∷ [])) 1 letters1 (kept (replaced 1) (bytesOf1 0xE4 0 2 ++ (7 ∷ [])))
+    ∷ stores (bytesOf1 0xE5 7 1) 1 letters1 (kept (replaced 1) (bytesOf1 0xE4 0 2))
+    ∷ stores (bytesOf1 0xE5 0 1) 1 letters1 (kept (refusal 15) (bytesOf1 0xE5 0 1))
+    ∷ stores (bytesOf1 0xE4 0 1) 1 oneByteWrong (kept (repeat 1) (bytesOf1 0xE4 0 2))
+    ∷ stores (bytesOf1 0xE4 7 0) 1 oneByteWrong (kept (repeat 1) (bytesOf1 0xE4 7 1))
+    ∷ stores (bytesOf1 0xE5 1 1) 1 oneByteWrong (kept (refusal 15) (bytesOf1 0xE5 1 1))
+    ∷ stores (bytesOf1 0xE5 0 1) 1 oneByteWrong (kept (refusal 15) (bytesOf1 0xE5 0 1))
+    ∷ stores (bytesOf2 ++ (bytesOf1 0xE5 1 1 ++ bytesOf1 0xE5 1 1)) 3 letters1
+    (kept (replaced 3) (bytesOf2 ++ (bytesOf1 0xE4 0 2 ++ bytesOf1 0xE5 1 1)))
+    ∷ stores (manyOf1 0xE4 0 0 255) 1 letters1 (kept (repeat 1) (0 ∷ 0 ∷ 0 ∷ 1 ∷ 0xE4 ∷ 0 ∷ 1 ∷ 0 ∷ 0 ∷ 0 ∷ []))
+    ∷ stores (manyOf1 0xE4 0 255 254) 1 letters1 (kept (repeat 1) (manyOf1 0xE4 0 255 255))
+    ∷ stores (manyOf1 0xE4 0 255 255) 1 letters1 (kept (refusal 20) (manyOf1 0xE4 0 255 255))
+    ∷ stores (manyOf1 0xE5 1 255 255) 1 letters1 (kept (refusal 20) (manyOf1 0xE5 1 255 255))
+    ∷ stores (manyOf1 0xE5 0 255 255) 1 letters1 (kept (refusal 15) (manyOf1 0xE5 0 255 255))
+    ∷ best 1 (readOf1 0xE5 false ∷ readOf1 0xE4 true ∷ readOf1 0xE6 true ∷ []) (record { read = readOf1 0xE4 true; count = 3 } ∷ [])
+    ∷ best 1 (readOf1 0xE5 false ∷ readOf1 0xE4 false ∷ []) (record { read = readOf1 0xE5 false; count = 2 } ∷ [])
     ∷ writes (limitsP 3 450 550) 0x12345678 10 1000 (written Done 10 62 0xD862C7F9 23 29)
     ∷ writes (limitsP 4 450 550) 0x12345678 10 1000 (written Done 10 49 0x506EC32B 7 32)
     ∷ writes (limitsP 3 400 600) 0x12345678 10 1000 (written Done 10 13 0x8ACEB9DE 2 1)
@@ -249,7 +259,7 @@ rows =
     ∷ []
 
 pub examples : All Holds rows
-unfolding cardReading cardReadingRefusal wellFormed cardBytes widthField fieldBytes toTwoBytes cardNumbers weightsEnd widthThere widthRight cutCard withRemainder firstColumns interleave columnStart interleavedPlace tableOf deinterleave reordered bothLong reorderRefusal fileReordered reorderFile seedAfter seedWord segmentsOf degreeOf degree degreeFrom pickFrom member ofSeed afterDraw numberDrawn xorshift segment payload padded strandWord toBigEndian fromBigEndian parity remainderAfter xorLists multiple byRoot timesPower double shiftUp horner syndromes cardRefusal sizesRight limitsRight weightsRight segmentCount strandBytes firstWeights weightAt numberAt letterOf letterBits allLetters byteBases wordBases byteLetters wordLetters lettersByte lettersWord textLetters lettersBases siteBefore siteAfter orderOf withBase longestOf longestRun gcCount measureOf verdict wordVerdict screenPasses sumsZero differs distance firstOf within corrected strandReading wordReading lettersReading readCheck recordBytes evidenceText recordText recordPayload recordState recordFrom records sameBytes findSeed overwritten appended compared storeRecord storeReading storeRead those bestOf droplets marked missing known filled filledBy step pass present peel cleared peelAll contradicts contradictions hasSeed roomRefusal laterRefusal restoreRefusal restore oneTry writeFrom writerRun ownRefusal writerRefusal
+unfolding cardReading cardReadingRefusal wellFormed cardBytes widthField fieldBytes toTwoBytes cardNumbers weightsEnd widthThere widthRight cutCard withRemainder firstColumns interleave columnStart interleavedPlace tableOf deinterleave reordered bothLong reorderRefusal fileReordered reorderFile seedAfter seedWord segmentsOf degreeOf degree degreeFrom pickFrom member ofSeed afterDraw numberDrawn xorshift segment payload padded strandWord toBigEndian fromBigEndian parity remainderAfter xorLists multiple byRoot timesPower double shiftUp horner syndromes cardRefusal sizesRight limitsRight weightsRight segmentCount strandBytes firstWeights weightAt numberAt letterOf letterBits allLetters byteBases wordBases byteLetters wordLetters lettersByte lettersWord textLetters lettersBases siteBefore siteAfter orderOf withBase longestOf longestRun gcCount measureOf verdict wordVerdict screenPasses sumsZero differs distance firstOf within corrected strandReading wordReading lettersReading readCheck recordBytes evidenceText recordText recordPayload recordState recordCount recordFrom records sameBytes findSeed overwritten appended countedAgain unlessFull compared storeRecord storeReading storeRead those bestOf countOf droplets marked missing known filled filledBy step pass present peel cleared peelAll contradicts contradictions hasSeed roomRefusal laterRefusal restoreRefusal restore oneTry writeFrom writerRun ownRefusal writerRefusal
 examples = (
   (refl, refl),
   (
@@ -266,7 +276,7 @@ examples = (
               refl,
               (
                 (refl, refl, refl, refl),
-                (refl, (refl, (refl, (refl, (refl, (refl, (refl, (refl, (refl, (refl, (refl, (refl, (refl, (refl, (refl, (refl, (refl, (refl, (refl, (refl, (refl, (refl, (refl, (refl, (refl, (refl, (refl, (refl, (refl, (refl, (refl, (refl, (refl, (refl, (refl, (refl, (refl, (refl, (refl, (refl, (refl, ((refl, refl), (refl, (refl, (refl, (refl, (refl, (refl, (refl, (refl, tt)))))))))))))))))))))))))))))))))))))))))))))))))),
+                (refl, (refl, (refl, (refl, (refl, (refl, (refl, (refl, (refl, (refl, (refl, (refl, (refl, (refl, (refl, (refl, (refl, (refl, (refl, (refl, (refl, (refl, (refl, (refl, (refl, (refl, (refl, (refl, (refl, (refl, (refl, (refl, (refl, (refl, (refl, (refl, (refl, (refl, (refl, (refl, (refl, (refl, (refl, (refl, (refl, (refl, ((refl, refl), (refl, (refl, (refl, (refl, (refl, (refl, (refl, (refl, tt))))))))))))))))))))))))))))))))))))))))))))))))))))))),
               ),
             ),
           ),

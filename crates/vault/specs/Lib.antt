@@ -1,0 +1,2 @@
+pub mod Vault
+pub mod BenchExamples
