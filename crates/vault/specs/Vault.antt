@@ -1,7 +1,7 @@
 -- From file to vault and back: what a store and its restore sheet are worth where every clean legal read is a strand that the writer
--- printed for one file, and for each seed in the store either such a read was offered, whatever its corrected (mended) reads were (document
--- 02, Item 5), or each of its legal reads differs in at most R/2 bytes from such a strand (Item 3). Reads may be lost, repeated and in any
--- order, and what the read check refuses may be anything.
+-- printed for one file, and for each seed in the store either such a read was offered and not refused under 20, whatever its corrected
+-- (mended) reads were (document 02, Items 5 and 6), or each of its legal reads differs in at most R/2 bytes from such a strand (Item 3).
+-- Reads may be lost, repeated and in any order, and what the read check refuses may be anything.
 -- The file is the one that the writer was handed. Where the card has a width, that is the customer's file interleaved (document 02,
 -- Item 14: "what the restorer promises is promised of the dealt file"), and the last step gives the customer's. Assumes nothing.
 use mathlib.Core.Path.{_≡_}
@@ -168,8 +168,8 @@ module _ (c : Card) (weights : List ℕ) where
     -- they are a job where the legal reads are near to strands of the file
     pub jobs : (file lent : List ℕ) (calls : List Call) → length file ≡ c .f → AllBytes file → Chained c weights lent 0 calls
         → LegalPrinted file (readsOf calls) → Job file lent calls
-    -- and where the clean ones are strands of the file, and each seed in the store had one of these among the reads offered, or its legal reads
-    -- are near to strands of the file
+    -- and where the clean ones are strands of the file, and each seed in the store had one of these among the reads offered, not refused under
+    -- 20, or its legal reads are near to strands of the file
     pub clean-jobs : (file lent : List ℕ) (calls : List Call) → length file ≡ c .f → AllBytes file → Chained c weights lent 0 calls
         → CleanPrinted file (readsOf calls)
         → All (λ r. CleanOffered calls (r .seed) ⊎ SeedPrinted file (readsOf calls) (r .seed)) (readsOn (storeAfter lent calls))
