@@ -41,10 +41,6 @@ module _ (L : ℕ) where
   unfolding recordBytes
   parts-fit = omega arith
 
-  pub parts-all : recordBytes L ≡ 9 + L
-  unfolding recordBytes
-  parts-all = refl
-
   pub payload-size : (bytes : List ℕ) → recordBytes L ≤ length bytes → length (recordPayload L bytes) ≡ L
   unfolding recordPayload
   payload-size bytes long = length-take-le L (drop 4 bytes) (rw length-drop (omega (arith, parts-fit)))
