@@ -27,11 +27,11 @@ use Rattle.decoder.proofs.ReadRefusals.{OwnNumber}
 -- ---- how many reads have a seed
 
 module _ (s : ℕ) (os : List LegalRead) (r : LegalRead) where
-  pub count-other : eqb (r .seed) s ≡ false → countOf s (os ++ (r ∷ [])) ≡ countOf s os
+  count-other : eqb (r .seed) s ≡ false → countOf s (os ++ (r ∷ [])) ≡ countOf s os
   unfolding countOf
   count-other e = rw (those-snoc (λ x. eqb (x .seed) s) os r, e, length-append) (omega arith)
 
-  pub count-own : r .seed ≡ s → countOf s (os ++ (r ∷ [])) ≡ suc (countOf s os)
+  count-own : r .seed ≡ s → countOf s (os ++ (r ∷ [])) ≡ suc (countOf s os)
   unfolding countOf
   count-own e = rw (those-snoc (λ x. eqb (x .seed) s) os r, eq-eqb (r .seed) s e, length-append) (omega arith)
 
@@ -68,7 +68,7 @@ numberAfter number a = cond (answered a) (suc number) number
 
 module _ (taken : List LegalRead) (number : ℕ) (rs : List Record) (h : Counted taken number rs) where
   -- no count is more than all together
-  pub total-most : (r : LegalRead) (i : ℕ) (q : Record) → Spot (r .seed) rs i q → q .count ≤ number
+  total-most : (r : LegalRead) (i : ℕ) (q : Record) → Spot (r .seed) rs i q → q .count ≤ number
   unfolding totalCount
   total-most r i q spot =
       omega (arith, sym (h .total) ∙ ap totalCount (spot .parts) ∙ total-join (spot .before) (q ∷ spot .after))

@@ -130,9 +130,12 @@ module _ (L : ℕ) (lent : List ℕ) where
               fits = rw n (h .fits);
             }
 
-        -- q with one read more behind it, and with the read r in the place of its own
+        -- q with one read more behind it, and so with r in the place of its own read
         abbrev counted : Record
         counted = record { read = q .read; count = suc (q .count) }
+
+        abbrev takenOver : Record
+        takenOver = record { read = r; count = suc (q .count) }
 
         counted-bytes : countedAgain L i q buffer ≡ textWith counted
         unfolding countedAgain
@@ -144,18 +147,16 @@ module _ (L : ℕ) (lent : List ℕ) where
           counted-good : IsRecord L counted
           counted-good = record { holds = good-after .0 .holds; countFits = omega arith }
 
-          replaced-bytes : tookOver L i r (countedAgain L i q buffer)
-              ≡ textWith (record { read = r; count = suc (q .count) })
+          replaced-bytes : tookOver L i r (countedAgain L i q buffer) ≡ textWith takenOver
           replaced-bytes =
               rw (counted-bytes, ← spot .place)
               (texts-replaced L (spot .before) counted (spot .after) (drop (length rs * recordBytes L) lent) r good-before counted-good fine (sym (spot .seed)))
 
-          replaced-moves : better r (q .read) ≡ true
-              → Leaves (kept (replaced count) (tookOver L i r (countedAgain L i q buffer)))
+          replaced-moves : better r (q .read) ≡ true → Leaves (kept (replaced count) (tookOver L i r (countedAgain L i q buffer)))
           replaced-moves b = (
-            recordsWith (record { read = r; count = suc (q .count) }),
+            recordsWith takenOver,
             met (record { i = i; q = q; spot = spot; below = below; says = rw b (ap replaced (h .number)); now = rw b }),
-            with-stocked (record { read = r; count = suc (q .count) }) _ (record { holds = fine; countFits = omega arith }) replaced-bytes,
+            with-stocked takenOver _ (record { holds = fine; countFits = omega arith }) replaced-bytes,
           )
 
           repeat-moves : better r (q .read) ≡ false → Leaves (kept (repeat count) (countedAgain L i q buffer))
