@@ -1,5 +1,5 @@
-# The three commands of the README.
-.PHONY: run cards test
+# The four commands of the README.
+.PHONY: run cards pairs test
 
 # Proves and builds the listing program, saying nothing unless that fails, and runs it on the bench pool.
 run:
@@ -7,11 +7,14 @@ run:
 	@rt check listing >target/run.log 2>&1 || { cat target/run.log >&2; exit 1; }
 	@cd crates/listing/data && ../../../target/bin/listing <../stdin
 
-# Proves all that stands in the archive of the card cutter and the card reader, and builds the programs that cut and show a card.
-cards:
+# Prove all that stands in the archive of the card cutter, the card reader and the choice between two base callers, and build the
+# programs that cut and show a card, and the one that chooses.
+cards: programs = cut_card show_card
+pairs: programs = read_pairs
+cards pairs:
 	@mkdir -p target/bin
-	@rt staticlib capi >target/cards.log 2>&1 || { cat target/cards.log >&2; exit 1; }
-	@for program in cut_card show_card; do \
+	@rt staticlib capi >target/$@.log 2>&1 || { cat target/$@.log >&2; exit 1; }
+	@for program in $(programs); do \
 	    gcc -std=c99 -O2 -Iinclude host/$$program.c target/staticlib/libcapi.a -o target/bin/$$program || exit 1; \
 	done
 

@@ -2,9 +2,10 @@
  * stand there or follow from its rules: reads card P and cuts it again, writes strands of file Q, checks and stores the reads of
  * seeds 2, 1, 3, and restores. On the way it has calls refused, reads mended (document 02, Item 3), and runs document 02's example of
  * runs over the joints (Item 1) and the header's examples of dropped strands (Item 12), of a file of seven bytes, dealt by W = 3 (Item
- * 14), of positions of the seed schedule, with a job that two writers share (Item 7), of clean reads over mended ones (Item 5), and of
- * the reads behind a record (Item 6). Lent buffers and answers end in bytes that must survive, but in the job of two writers and the one
- * with a dealt file, and all of them must survive a refusal. Returns 1 if anything differs.
+ * 14), of positions of the seed schedule, with a job that two writers share (Item 7), of clean reads over mended ones (Item 5),
+ * of the reads behind a record (Item 6), and of the choice between two base callers (Item 8). Lent buffers and answers end in
+ * bytes that must survive, but in the job of two writers and the one with a dealt file, and all of them must survive a refusal.
+ * Returns 1 if anything differs.
  *
  *   capi_bench bench.card */
 #include <stdio.h>
@@ -281,10 +282,12 @@ static void refused_widths(const struct pool *p)
         lend(a, sizeof a);
         number("write: 27", fountain_write(CARD(&other), Q, 3, 1, 1, 5, buffer, sizeof buffer, list, D, a), 27);
         number("check: 27", fountain_check_read(CARD(&other), Q, 0, buffer, sizeof buffer), 27);
+        number("choose: 27", fountain_choose_call(CARD(&other), Q, 0, Q, 0, a), 27);
         number("store: 27", fountain_store(CARD(&other), buffer, 0, 1, Q, 0, a), 27);
         number("restore: 27", fountain_restore(CARD(&other), NULL, 0, 1, buffer, K, marks, K, list, D, a), 27);
         number("write: 4", fountain_write(CARD(&plan), Q, 3, 1, 1, 5, buffer, sizeof buffer, list, D, a), 4);
         number("check: 4", fountain_check_read(CARD(&plan), Q, 0, buffer, sizeof buffer), 4);
+        number("choose: 4", fountain_choose_call(CARD(&plan), Q, 0, Q, 0, a), 4);
         number("store: 4", fountain_store(CARD(&plan), buffer, 0, 1, Q, 0, a), 4);
         number("restore: 4", fountain_restore(CARD(&plan), NULL, 0, 1, buffer, K, marks, K, list, D, a), 4);
         kept("the buffer of a refused width", buffer, sizeof buffer);
@@ -469,6 +472,152 @@ static void mended(const struct pool *p)
     number("mended to a run of 15", fountain_check_read(CARD(&run_14), (const uint8_t *)two[0], N, out, sizeof out), 13);
     number("mended to seed 0", fountain_check_read(CARD(p), (const uint8_t *)"AAAAAAAAAAAAAAAAAAAAAAAAAAAC", N, out, sizeof out), 12);
     kept("the buffer of a mended strand that is refused", out, sizeof out);
+}
+
+/* An ordered strand, and the lengths of the site before it and of a base caller's call of it (document 02, Item 8). */
+#define SITE_BEFORE "GTTTCAGAGTTCTACAGTCCGACGATC"
+#define SITE_AFTER "TGGAATTCTCGGGTGCCAAGG"
+#define ORDERED(strand) SITE_BEFORE strand SITE_AFTER
+enum { BEFORE = 27, CALL = N + 48, CALL_MOST = 96 };
+
+/* Hands over two calls, each a string or NULL for none, in memory that must stay as it is. Wanted is 0 for the first call, 1 for
+ * the second, or the number of the refusal. Of the chosen call the letters are taken as the header says: they are as read, and
+ * the read check accepts them with the droplet. */
+static void choose(const char *what, const struct pool *p, const char *first, const char *second, uint32_t wanted,
+                   const char *letters, const uint8_t *droplet)
+{
+    const char *const calls[2] = {first, second};
+    uint8_t lent[2][CALL_MOST + SPARE], as_lent[2][CALL_MOST + SPARE], out[DROPLET + SPARE];
+    const uint8_t *at[2];
+    size_t length[2];
+    uint64_t a[2];
+    const uint64_t chosen[1] = {wanted};
+    lend(lent, sizeof lent);
+    lend(out, sizeof out);
+    lend(a, sizeof a);
+    for (int i = 0; i < 2; i++) {
+        length[i] = calls[i] == NULL ? 0 : strlen(calls[i]);
+        at[i] = calls[i] == NULL ? NULL : lent[i];
+        if (calls[i] != NULL)
+            memcpy(lent[i], calls[i], length[i]);
+    }
+    memcpy(as_lent, lent, sizeof lent);
+    uint32_t returned = fountain_choose_call(CARD(p), at[0], length[0], at[1], length[1], a);
+    bytes("the calls after the choice", lent, as_lent, sizeof lent);
+    if (wanted > 1) {
+        number(what, returned, wanted);
+        kept("the answer of a refused pair", a, sizeof a);
+        return;
+    }
+    number(what, returned, 0);
+    answers(what, a, chosen, 1);
+    if (returned != 0 || a[0] != wanted)
+        return;
+    const uint8_t *read = (a[0] == 0 ? at[0] : at[1]) + BEFORE;
+    size_t read_len = 4 * (4 + (size_t)p->L + p->R);
+    number("the letters to read", read_len, strlen(letters));
+    bytes("the letters to read", read, letters, read_len);
+    number("check the letters", fountain_check_read(CARD(p), read, read_len, out, sizeof out), 0);
+    bytes("the droplet of the letters", out, droplet, DROPLET);
+    kept("the buffer past the droplet of the letters", out + DROPLET, SPARE);
+}
+
+/* The card questions come first, in their order and whatever the calls are. */
+static void choose_refused(const struct pool *p, const char *first, const char *second)
+{
+    struct pool width = dealt_by(p, 5), plan = width, limits, sizes;
+    plan.weights_len = 7;
+    limits = plan;
+    limits.hi = 1001;
+    sizes = limits;
+    sizes.R = 3;
+    choose("choose: 2", &sizes, first, second, 2, NULL, NULL);
+    choose("choose: 3", &limits, first, second, 3, NULL, NULL);
+    choose("choose: 4", &plan, first, second, 4, NULL, NULL);
+    choose("choose: 27", &width, first, second, 27, NULL, NULL);
+}
+
+/* A call that does not pass, beside one that does, beside none and beside itself. */
+static void passed_over(const char *what, const struct pool *p, const char *call)
+{
+    static const char fine[] = ORDERED("AAAAAAAAAAAAAAAGCGGCGTCCTCTG");
+    choose(what, p, call, fine, 1, READS[0], DROPLETS[0]);
+    choose(what, p, fine, call, 0, READS[0], DROPLETS[0]);
+    choose(what, p, call, NULL, 21, NULL, NULL);
+    choose(what, p, call, call, 21, NULL, NULL);
+}
+
+/* Calls of the strand of seed 1 without the right sites, with a letter too few, too many or in another place, and calls with a
+ * middle that the read check refuses under 10, 11, 12 and 13. Then each letter as another one: a site is never mended, and the
+ * strand is. */
+static void wrong_calls(const struct pool *p)
+{
+    static const char *const calls[] = {
+        "", "AAAAAAAAAAAAAAACTGCAATCGTCAT", SITE_BEFORE SITE_AFTER, SITE_AFTER "AAAAAAAAAAAAAAACTGCAATCGTCAT" SITE_BEFORE,
+        "TTTCAGAGTTCTACAGTCCGACGATCAAAAAAAAAAAAAAACTGCAATCGTCAT" SITE_AFTER, ORDERED("AAAAAAAAAAAAAACTGCAATCGTCAT"),
+        SITE_BEFORE "AAAAAAAAAAAAAAACTGCAATCGTCATTGGAATTCTCGGGTGCCAAG", "A" ORDERED("AAAAAAAAAAAAAAACTGCAATCGTCAT"),
+        ORDERED("AAAAAAAAAAAAAAAACTGCAATCGTCAT"), ORDERED("AAAAAAAAAAAAAAACTGCAATCGTCAT") "G",
+        "TTTCAGAGTTCTACAGTCCGACGATCAAAAAAAAAAAAAAACTGCAATCGTCAT" SITE_AFTER "G",
+        "G" SITE_BEFORE "AAAAAAAAAAAAAAACTGCAATCGTCATTGGAATTCTCGGGTGCCAAG",
+        ORDERED("AAAAAAAAAAAAAAACTGCAATCGTCAN"), ORDERED("aAAAAAAAAAAAAAACTGCAATCGTCAT"), ORDERED("TAAAAAAAAAAAAAACTGCAATCGTCAA"),
+        ORDERED("AAAAAAAAAAAAAAAAAAAAAAAAAAAA"), ORDERED("CAAAAAAAAAAAAAAAAAAACTGTATGT")};
+    static const char clean[CALL + 1] = ORDERED("AAAAAAAAAAAAAAACTGCAATCGTCAT"), others[] = "ACGTacgtN";
+    for (size_t i = 0; i < sizeof calls / sizeof calls[0]; i++)
+        passed_over("a call that does not pass", p, calls[i]);
+    for (size_t i = 0; i < CALL; i++) {
+        int in_site = i < BEFORE || i >= BEFORE + N;
+        for (int k = 0; k < (in_site ? 9 : 4); k++) {
+            char call[CALL + 1], letters[N + 1] = "";
+            memcpy(call, clean, sizeof call);
+            call[i] = others[k];
+            memcpy(letters, call + BEFORE, N);
+            if (in_site && call[i] != clean[i])
+                passed_over("a wrong letter in a site", p, call);
+            else
+                choose("a wrong letter in the strand", p, call, clean, 0, letters, DROPLETS[1]);
+        }
+    }
+}
+
+/* The header's two calls of the strand of seed 1, and others: the first that passes is chosen, mended or clean, whatever the
+ * second is. What passes depends on the card: lo = 215 refuses that strand; with R = 4 calls are longer, and two bytes mended. */
+static void choose_calls(const struct pool *p)
+{
+    static const char wrong_site[] = "GTTTCAGAGTTCTACAGTCCGACGATTAAAAAAAAAAAAAAACTGCAATCGTCATTGGAATTCTCGGGTGCCAAGG";
+    static const char misread[] = "GTTTCAGAGTTCTACAGTCCGACGATCTTTTAAAAAAAAAAACTGCAATCGTCATTGGAATTCTCGGGTGCCAAGG";
+    static const char clean[] = ORDERED("AAAAAAAAAAAAAAACTGCAATCGTCAT"), seed_2[] = ORDERED("AAAAAAAAAAAAAAAGCGGCGTCCTCTG");
+    static const char clean_4[] = ORDERED("AAAAAAAAAAAAAAACTGCAGCCGAAAGAGGCCCGA");
+    static const char two_wrong[] = ORDERED("TAAAAAAAAAAAAAACTGCAGCCGAAAGAGGCCCGT");
+    static const char three_wrong[] = ORDERED("TAAAAAAAAAAAAAACAGCAGCCGAAAGAGGCCCGT");
+    static const uint64_t first[1] = {0};
+    struct pool r_4 = *p, lo_215 = *p, width = dealt_by(p, 4);
+    uint64_t a[2];
+    r_4.R = 4;
+    r_4.lo = 0;
+    lo_215.lo = 215;
+    choose("the header's calls", p, wrong_site, misread, 1, "TTTTAAAAAAAAAAACTGCAATCGTCAT", DROPLETS[1]);
+    choose("the other way round", p, misread, wrong_site, 0, "TTTTAAAAAAAAAAACTGCAATCGTCAT", DROPLETS[1]);
+    choose("mended before clean", p, misread, clean, 0, "TTTTAAAAAAAAAAACTGCAATCGTCAT", DROPLETS[1]);
+    choose("clean before mended", p, clean, misread, 0, READS[1], DROPLETS[1]);
+    choose("calls of two strands", p, clean, seed_2, 0, READS[1], DROPLETS[1]);
+    choose("calls of two strands", p, seed_2, clean, 0, READS[0], DROPLETS[0]);
+    choose("no second call", p, clean, NULL, 0, READS[1], DROPLETS[1]);
+    choose("no first call", p, NULL, clean, 1, READS[1], DROPLETS[1]);
+    choose("no calls", p, NULL, NULL, 21, NULL, NULL);
+    choose("with a width", &width, wrong_site, clean, 1, READS[1], DROPLETS[1]);
+    choose("lo = 215", &lo_215, clean, seed_2, 1, READS[0], DROPLETS[0]);
+    choose("lo = 215, neither", &lo_215, clean, misread, 21, NULL, NULL);
+    choose("R = 4", &r_4, clean_4, two_wrong, 0, "AAAAAAAAAAAAAAACTGCAGCCGAAAGAGGCCCGA", DROPLETS[1]);
+    choose("R = 4, mended", &r_4, three_wrong, two_wrong, 1, "TAAAAAAAAAAAAAACTGCAGCCGAAAGAGGCCCGT", DROPLETS[1]);
+    choose("R = 4, neither", &r_4, three_wrong, clean, 21, NULL, NULL);
+    choose_refused(p, NULL, NULL);
+    choose_refused(p, wrong_site, NULL);
+    choose_refused(p, clean, misread);
+    wrong_calls(p);
+    /* one lent call as both */
+    lend(a, sizeof a);
+    number("one call twice", fountain_choose_call(CARD(p), (const uint8_t *)clean, CALL, (const uint8_t *)clean, CALL, a), 0);
+    answers("the choice of one call twice", a, first, 1);
 }
 
 /* One job under the header's three limits, and one that is spent on a strand with both faults (document 02, Item 12). */
@@ -832,6 +981,7 @@ int main(int argc, char **argv)
     check_reads(&p);
     joints(&p);
     mended(&p);
+    choose_calls(&p);
     drops(&p);
     seeds_at();
     split_job(&p);

@@ -1,5 +1,5 @@
-/* What the questions 1 to 4 and 27 ask of a pool card, in words, for the programs that cut and show one. Question 4 also asks that
- * the bytes of the weights are a multiple of 4: that cannot fail there. */
+/* What the questions 1 to 4 and 27 ask of a pool card, in words, for the programs that cut one or are handed one. Question 4 also
+ * asks that the bytes of the weights are a multiple of 4: that cannot fail there. */
 #ifndef CARD_QUESTIONS_H
 #define CARD_QUESTIONS_H
 

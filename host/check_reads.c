@@ -8,8 +8,8 @@
 #define _POSIX_C_SOURCE 200809L
 #include <stdio.h>
 #include <stdlib.h>
-#include <sys/types.h>
 #include "fountain.h"
+#include "lines.h"
 
 enum { CARD_MOST = 8192, WEIGHTS_START = 20, FOURTH = 7, DROPLET_MOST = 4 + 64 };
 
@@ -46,7 +46,7 @@ static int find_fourth(struct card *c)
     return 1;
 }
 
-static void check(const struct card *c, const char *line, size_t length)
+static void check(const struct card *c, const struct line *line)
 {
     uint8_t droplet[DROPLET_MOST];
     const uint8_t *card = c->bytes;
@@ -54,7 +54,7 @@ static void check(const struct card *c, const char *line, size_t length)
     uint32_t answer = fountain_check_read(number(card + 3, 4), L, card[8], card[12],
                                           (uint16_t)number(card + 13, 2), (uint16_t)number(card + 15, 2),
                                           c->dealt, c->width, card + WEIGHTS_START, c->weights_len,
-                                          (const uint8_t *)line, length, droplet, sizeof droplet);
+                                          letters(line), line->length, droplet, sizeof droplet);
     printf("%u", (unsigned)answer);
     if (answer == 0) {
         printf(" %08X ", (unsigned)number(droplet, 4));
@@ -83,15 +83,9 @@ int main(int argc, char **argv)
         fprintf(stderr, "%s: no pool card\n", argv[1]);
         return 2;
     }
-    char *line = NULL;
-    size_t size = 0;
-    ssize_t got;
-    while ((got = getline(&line, &size, stdin)) >= 0) {
-        size_t length = (size_t)got;
-        if (length > 0 && line[length - 1] == '\n')
-            length--;
-        check(&card, line, length);
-    }
-    free(line);
+    struct line line = {NULL, 0, 0};
+    while (next_line(&line))
+        check(&card, &line);
+    free(line.text);
     return ferror(stdin) ? 2 : 0;
 }

@@ -1,7 +1,7 @@
-/* Card reader, card cutter, dealing and its inverse, writer, the seed at a position of the schedule, read check, store (the hall's
- * shelf) and restorer of a DNA-storage pool, for C and C++ hosts.
+/* Card reader, card cutter, dealing and its inverse, writer, the seed at a position of the schedule, read check, the choice
+ * between two base callers, store (the hall's shelf) and restorer of a DNA-storage pool, for C and C++ hosts.
  *
- * Link libcapi.a and libstrand.a: fountain_check_read is in libstrand.a, the other eight are in libcapi.a. The two have
+ * Link libcapi.a and libstrand.a: fountain_check_read is in libstrand.a, the other nine are in libcapi.a. The two have
  * no name in common, and together need nothing but memcpy and memset.
  *
  * Each function returns 0, or the number of the first of its questions that says no. They are asked in the order in which each
@@ -214,6 +214,43 @@ uint32_t fountain_check_read(uint32_t F, uint8_t L, uint8_t R, uint8_t m, uint16
                              const uint8_t *weights, size_t weights_len,
                              const uint8_t *read, size_t read_len,
                              uint8_t *out, size_t out_len);
+
+/* Chooses between two base callers. Each has read the same ordered strand, and its call is what it read, the letters of the
+ * sites included. A call passes if it has n + 48 letters, the first 27 are the site before the strand and the last 21 the site
+ * after it, and fountain_check_read accepts the n letters between them, mended or not. The sites must be right to the letter: a
+ * wrong letter there is not mended, and a small letter is a wrong one. The first call that passes is chosen. So if the first
+ * caller's passes, the second's may be anything; a clean second call does not beat a first one that must be mended.
+ *
+ *   F .. weights_len    as above
+ *   first, first_len    the letters of the first caller's call
+ *   second, second_len  the letters of the second caller's call
+ *   answer              lent for one number: 0 if the first call is chosen, 1 if the second is
+ *
+ * For example, under the bench card, two calls of the strand of seed 1, AAAAAAAAAAAAAAACTGCAATCGTCAT:
+ *
+ *      first   GTTTCAGAGTTCTACAGTCCGACGATTAAAAAAAAAAAAAAACTGCAATCGTCATTGGAATTCTCGGGTGCCAAGG
+ *      second  GTTTCAGAGTTCTACAGTCCGACGATCTTTTAAAAAAAAAAACTGCAATCGTCATTGGAATTCTCGGGTGCCAAGG
+ *
+ * In the first the site before the strand ends in T and not in C, so it does not pass, though the strand itself is clean. The
+ * second passes, for the one wrong byte of its strand can be mended: answer[0] is 1. Handed over the other way round, the call
+ * with the wrong byte is the first, and answer[0] is 0.
+ *
+ * Returns 0 and fills answer. The letters to read are those between the sites of the chosen call. They stand in the call itself,
+ * as read and before any mending (TTTTAAAAAAAAAAACTGCAATCGTCAT in the example). A host takes them so, and hands them to
+ * fountain_check_read or fountain_store as a read:
+ *
+ *      const uint8_t *read = (answer[0] == 0 ? first : second) + 27;
+ *      size_t read_len = 4 * (4 + (size_t)L + R);
+ *
+ * Otherwise there are no letters to read:
+ *
+ *    2, 3, 4, 27  as above
+ *   21  neither call passes */
+uint32_t fountain_choose_call(uint32_t F, uint8_t L, uint8_t R, uint8_t m, uint16_t lo, uint16_t hi,
+                              uint8_t dealt, uint32_t width, const uint8_t *weights, size_t weights_len,
+                              const uint8_t *first, size_t first_len,
+                              const uint8_t *second, size_t second_len,
+                              uint64_t answer[1]);
 
 /* Offers one read to a store. An empty store is a buffer of any length and bytes with count 0. A read is clean if its own check sums are 0,
  * and mended otherwise. The first record of its seed decides: a clean read takes over a record that is mended, even where it has another

@@ -18,6 +18,23 @@ extern "C" {
         out: *mut u8,
         out_len: usize,
     ) -> u32;
+    fn fountain_choose_call(
+        f: u32,
+        l: u8,
+        r: u8,
+        m: u8,
+        lo: u16,
+        hi: u16,
+        dealt: u8,
+        width: u32,
+        weights: *const u8,
+        weights_len: usize,
+        first: *const u8,
+        first_len: usize,
+        second: *const u8,
+        second_len: usize,
+        answer: *mut u64,
+    ) -> u32;
     fn fountain_write(
         f: u32,
         l: u8,
@@ -133,6 +150,24 @@ pub fn check_read(c: Card, weights: &[u8], read: &[u8], out: &mut [u8]) -> u32 {
             read.len(),
             o,
             on,
+        )
+    }
+}
+
+pub fn choose_call(
+    c: Card,
+    weights: &[u8],
+    first: &[u8],
+    second: &[u8],
+    answer: &mut [u64; 1],
+) -> u32 {
+    let (w, wn) = (weights.as_ptr(), weights.len());
+    let (f, fl) = (first.as_ptr(), first.len());
+    let (s, sn) = (second.as_ptr(), second.len());
+    let a = answer.as_mut_ptr();
+    unsafe {
+        fountain_choose_call(
+            c.f, c.l, c.r, c.m, c.lo, c.hi, c.dealt, c.width, w, wn, f, fl, s, sn, a,
         )
     }
 }

@@ -1,11 +1,11 @@
 //! The proved archives beside a tuned implementation in Rust: document 001's job and the limits job, with clean reads and reads to be
-//! mended each by themselves, dealing by four widths, and how each phase of the jobs grows with K.
+//! mended each by themselves and with pairs of calls, dealing by four widths, and how each phase of the jobs grows with K.
 //! Both sides are handed the same buffers, and every answer and every byte that they leave is compared before a time is printed.
 mod archive;
 mod tuned;
 
 use std::collections::HashSet;
-use tuned::{record_bytes, Card};
+use tuned::{record_bytes, Card, SITE_AFTER, SITE_BEFORE};
 
 /// The processor time of this thread in seconds: other work on the machine does not count.
 fn clock() -> f64 {
@@ -70,7 +70,7 @@ struct Job {
     shelved_first: usize,
     rounds: usize,
     shelvings: usize,
-    /// Whether clean reads and reads with wrong bytes are timed each by themselves too.
+    /// Whether clean reads and reads with wrong bytes are timed each by themselves too, and pairs of calls.
     mending: bool,
 }
 
@@ -97,6 +97,26 @@ fn race(rounds: usize, mut proved: impl FnMut(), mut rust: impl FnMut()) -> (f64
     (a, b)
 }
 
+/// Changes letters of what is read; in about three of a hundred there is an N, a letter lost or one too many.
+fn damage(letters: &mut Vec<u8>, random: &mut Random) {
+    for letter in letters.iter_mut() {
+        if random.below(2000) == 0 {
+            *letter = b"ACGT"[random.below(4)];
+        }
+    }
+    match random.below(100) {
+        0 => {
+            let place = random.below(letters.len());
+            letters[place] = b'N';
+        }
+        1 => {
+            letters.pop();
+        }
+        2 => letters.push(b'A'),
+        _ => {}
+    }
+}
+
 /// Reads of random strands; about one in ten is damaged: letters changed, an N, a letter lost or one too many. Before them which
 /// strands they are of.
 fn damaged_reads(
@@ -112,22 +132,7 @@ fn damaged_reads(
         let i = random.below(strands);
         picked.push(i);
         let mut read = text[i * line..i * line + line - 1].to_vec();
-        for letter in read.iter_mut() {
-            if random.below(2000) == 0 {
-                *letter = b"ACGT"[random.below(4)];
-            }
-        }
-        match random.below(100) {
-            0 => {
-                let place = random.below(read.len());
-                read[place] = b'N';
-            }
-            1 => {
-                read.pop();
-            }
-            2 => read.push(b'A'),
-            _ => {}
-        }
+        damage(&mut read, random);
         all.push(read);
     }
     (picked, all)
@@ -279,6 +284,94 @@ fn mending(
     lines
 }
 
+type Pair = [Vec<u8>; 2];
+
+type Choose = fn(Card, &[u8], &[u8], &[u8], &mut [u64; 1]) -> u32;
+
+/// Two calls of each of the strands picked, as they are ordered: damaged each by itself, sites and all, or clean.
+fn pairs_of(
+    text: &[u8],
+    line: usize,
+    picked: &[usize],
+    damaged: bool,
+    random: &mut Random,
+) -> Vec<Pair> {
+    let mut call = |i: usize| {
+        let strand = &text[i * line..i * line + line - 1];
+        let mut call = [SITE_BEFORE, strand, SITE_AFTER].concat();
+        if damaged {
+            damage(&mut call, random);
+        }
+        call
+    };
+    picked.iter().map(|&i| [call(i), call(i)]).collect()
+}
+
+/// Offers each pair to both sides, which must return and answer the same. A refusal leaves the answer as it was, and the read
+/// check must accept the letters of a chosen call.
+fn compare_choices(card: Card, weights: &[u8], pairs: &[Pair]) {
+    let mut droplet = vec![0u8; 72];
+    for [first, second] in pairs {
+        let (mut a, mut b) = ([9], [9]);
+        let n = archive::choose_call(card, weights, first, second, &mut a);
+        let m = tuned::choose_call(card, weights, first, second, &mut b);
+        assert!(n == m && a == b, "the choices differ");
+        let chosen = match (n, a) {
+            (0, [0]) => first,
+            (0, [1]) => second,
+            (21, [9]) => continue,
+            _ => panic!("{n} and {a:?} is no answer"),
+        };
+        let read = &chosen[SITE_BEFORE.len()..chosen.len() - SITE_AFTER.len()];
+        assert_eq!(archive::check_read(card, weights, read, &mut droplet), 0);
+    }
+}
+
+/// How many of the pairs were answered by the first call, by the second, and refused.
+fn choose_all(choose: Choose, card: Card, weights: &[u8], pairs: &[Pair]) -> [usize; 3] {
+    let (mut counts, mut answer) = ([0; 3], [0]);
+    for [first, second] in pairs {
+        if choose(card, weights, first, second, &mut answer) == 0 {
+            counts[answer[0] as usize] += 1;
+        } else {
+            counts[2] += 1;
+        }
+    }
+    counts
+}
+
+/// Two base callers: pairs of damaged calls, and pairs of clean ones, of which the first is always chosen.
+fn choosing(job: &Job, weights: &[u8], text: &[u8], line: usize, picked: &[usize]) -> Vec<Line> {
+    let card = job.card;
+    // a generator of its own, so that the phases after this one have the inputs that they had
+    let mut random = Random(362_436_069_521_288_629);
+    let mut lines = Vec::new();
+    for damaged in [true, false] {
+        let pairs = pairs_of(text, line, picked, damaged, &mut random);
+        compare_choices(card, weights, &pairs);
+        let (mut a, mut b) = ([0; 3], [0; 3]);
+        let (proved, rust) = race(
+            job.rounds,
+            || a = choose_all(archive::choose_call, card, weights, &pairs),
+            || b = choose_all(tuned::choose_call, card, weights, &pairs),
+        );
+        assert_eq!(a, b);
+        let what = if damaged {
+            format!("{} first, {} second, {} refused", a[0], a[1], a[2])
+        } else {
+            assert_eq!(a, [pairs.len(), 0, 0]);
+            "clean".to_string()
+        };
+        lines.push(Line {
+            phase: "choose",
+            what: format!("{} pairs, {what}", pairs.len()),
+            proved,
+            rust,
+        });
+    }
+    lines
+}
+
 type Write = fn(Card, &[u8], &[u8], u32, u32, u32, &mut [u8], &mut [u32], &mut [u64; 6]) -> u32;
 
 type Store = fn(Card, &[u8], &mut [u8], usize, &[u8], &mut [u64; 2]) -> u32;
@@ -418,6 +511,7 @@ fn run(job: &Job) -> Vec<Line> {
     });
     if job.mending {
         lines.extend(mending(job, &weights, &out_a, line, &picked, &mut random));
+        lines.extend(choosing(job, &weights, &out_a, line, &picked));
     }
 
     // the check bytes are gone from what the shelf and the restorer see, so one R is enough for them

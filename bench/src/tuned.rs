@@ -1,7 +1,7 @@
-//! Documents 01 and 02 (Items 1, 3, 5, 6, 12 and 14) in Rust, tuned for speed, behind the same interface as the proved archives: the
-//! same buffers, the same checks in each call, no memory of its own between calls and no allocation. It is tuned where plain code would be
-//! unfair: letters, C and G, doubling, parity, logarithms and the roots of quadratics by tables that are computed when it is compiled,
-//! and a bitmap for large sets.
+//! Documents 01 and 02 (Items 1, 3, 5, 6, 8, 12 and 14) in Rust, tuned for speed, behind the same interface as the proved
+//! archives: the same buffers, the same checks in each call, no memory of its own between calls and no allocation. It is tuned where
+//! plain code would be unfair: letters, C and G, doubling, parity, logarithms and the roots of quadratics by tables that are computed
+//! when it is compiled, and a bitmap for large sets.
 
 #[derive(Clone, Copy)]
 pub struct Card {
@@ -414,6 +414,46 @@ pub fn check_read(card: Card, weights: &[u8], read: &[u8], out: &mut [u8]) -> u3
         return 16;
     }
     out[..size].copy_from_slice(&word[..size]);
+    0
+}
+
+/// The order's sites, before the strand and after it.
+pub const SITE_BEFORE: &[u8; 27] = b"GTTTCAGAGTTCTACAGTCCGACGATC";
+pub const SITE_AFTER: &[u8; 21] = b"TGGAATTCTCGGGTGCCAAGG";
+
+/// Whether a call has the order's length and sites, each compared as one array, and between them a read that questions 9 to 13
+/// let pass.
+fn passes(card: &Card, call: &[u8]) -> bool {
+    if call.len() != SITE_BEFORE.len() + 4 * word_bytes(card) + SITE_AFTER.len() {
+        return false;
+    }
+    let Some((before, rest)) = call.split_first_chunk() else {
+        return false;
+    };
+    let Some((read, after)) = rest.split_last_chunk() else {
+        return false;
+    };
+    before == SITE_BEFORE && after == SITE_AFTER && check_letters(card, read, &mut [0; 72]).is_ok()
+}
+
+#[inline(never)]
+pub fn choose_call(
+    card: Card,
+    weights: &[u8],
+    first: &[u8],
+    second: &[u8],
+    answer: &mut [u64; 1],
+) -> u32 {
+    if let Err(n) = plan_of(&card, weights) {
+        return n;
+    }
+    if passes(&card, first) {
+        *answer = [0];
+    } else if passes(&card, second) {
+        *answer = [1];
+    } else {
+        return 21;
+    }
     0
 }
 

@@ -7,10 +7,11 @@
 //! where no other is named.
 //!
 //! Every public call (card reading, card cutting, dealing, undealing, the seed at a
-//! schedule position, read check, its C form, writing, shelving, restoring) takes
-//! numbers and slices and answers a struct, an enum, a number or nothing, or a
-//! `Refusal` holding the number of the first question answered "no". A refusal
-//! changes no buffer.
+//! schedule position, read check, its C form, the choice between two base callers,
+//! the letters chosen, writing, shelving, restoring) takes numbers and slices and
+//! answers a struct, an enum, a number or nothing, or a `Refusal` holding the number
+//! of the first question answered "no". The letters chosen are answered as a part of
+//! a slice, which is empty on a refusal. A refusal changes no buffer.
 //!
 //! The other functions are building blocks. Those that need an accepted card
 //! (questions 2 to 4 and 27 all "yes") say so.
@@ -31,6 +32,7 @@ pub mod read_counts;
 pub mod restorer;
 pub mod schedule_position;
 pub mod shelf;
+pub mod two_base_callers;
 pub mod vectors;
 pub mod writer;
 
@@ -44,4 +46,5 @@ pub use questions::{questions_2_to_4, Refusal};
 pub use restorer::{restore, Restored};
 pub use schedule_position::seed_at;
 pub use shelf::{shelve, Shelved};
+pub use two_base_callers::{call_letters, choose_call, Choice};
 pub use writer::{write, Stop, Written};

@@ -169,6 +169,12 @@ pub fn question_19(buffer_length: usize, card_length: usize) -> bool {
     buffer_length >= card_length
 }
 
+/// Document 02, Item 8: "If neither call passes, the pair is refused as 21, after the
+/// card questions."
+pub fn question_21(first_passes: bool, second_passes: bool) -> bool {
+    first_passes || second_passes
+}
+
 /// Document 02, Item 14: "every call is handed both and checks W only if it is
 /// there. Without it any W handed is ignored" and "right after question 4 in every
 /// call, a W below 2 or above F is refused as 27"
@@ -316,6 +322,15 @@ mod tests {
             assert_eq!(question_27(f, true, width), yes, "{f} {width}");
             assert!(question_27(f, false, width), "{f} {width}");
         }
+    }
+
+    /// One call that passes is enough, and both are no more.
+    #[test]
+    fn question_21_edges() {
+        assert!(question_21(true, true));
+        assert!(question_21(true, false));
+        assert!(question_21(false, true));
+        assert!(!question_21(false, false));
     }
 
     #[test]

@@ -1,9 +1,9 @@
 //! Published Reed-Solomon values and the examples of document 01 that are not starred, run by this implementation. The text is
 //! what the Rattle program `vectors` must print.
 
-use crate::check_bytes_letters_screen::{check_bytes, check_sums};
+use crate::check_bytes_letters_screen::{check_bytes, check_sums, order};
 use crate::mending::mend;
-use crate::{read_check, restore, shelve, Handed};
+use crate::{call_letters, read_check, restore, shelve, Handed};
 
 /// ISO/IEC 18004, Annex I: the QR code symbol of "01234567", 16 data and 10 check bytes. A word that is 0 at a^0 .. a^9 has its
 /// first 2 and its first 4 check sums 0.
@@ -148,9 +148,32 @@ fn mended_reads() -> String {
     text
 }
 
+/// The letters handed back of two calls (document 02, Item 8) of the bench strand of seed 1: as it is and with its first letter misread, in
+/// either order; then a first call with the last letter of a site wrong, and one with the first letter lost; and these two.
+fn letters_of_pairs() -> String {
+    let (clean, misread) = (
+        order(b"AAAAAAAAAAAAAAACTGCAATCGTCAT"),
+        order(b"TAAAAAAAAAAAAAACTGCAATCGTCAT"),
+    );
+    let (front, short) = (&clean[..clean.len() - 1], &clean[1..]);
+    let site = [front, b"C"].concat();
+    let mut text = String::new();
+    for (first, second) in [
+        (&clean[..], &misread[..]),
+        (&misread, &clean),
+        (&site, &misread),
+        (short, &clean),
+        (short, &site),
+    ] {
+        let letters = call_letters(&P, first, second);
+        text += &format!("letters {}\n", String::from_utf8_lossy(letters));
+    }
+    text
+}
+
 /// All of them, a line each.
 pub fn vectors() -> String {
-    reed_solomon() + &mending() + &bench_examples() + &mended_reads()
+    reed_solomon() + &mending() + &bench_examples() + &mended_reads() + &letters_of_pairs()
 }
 
 #[cfg(test)]

@@ -1,7 +1,7 @@
 //! Every bench example of document 01, over the public calls alone, in its
 //! order; then the examples of document 02, Item 1, card P cut as in Item 2, its
-//! strands mended as in Item 3, shelved as in Item 5 and counted as in Item 6, and with a
-//! fourth field as in Item 14.
+//! strands mended as in Item 3, shelved as in Item 5, counted as in Item 6 and called
+//! twice as in Item 8, and with a fourth field as in Item 14.
 
 use second::check_bytes_letters_screen::{
     check_bytes, check_sums, count_gc, letters_of_bytes, longest_run, strand_bytes,
@@ -489,6 +489,45 @@ fn restored_after_replacing() {
     let answer = shelve(&p, b"AAAAAAAAAAAAAAACTGCAATCGTCAT", &mut shelf, 3);
     assert_eq!(answer, Ok(Shelved::Replaced { count: 3 }));
     assert_eq!(restored(&shelf), hex("00 27 4E E4"));
+}
+
+/// Document 02, Item 8: "Give back the middle n letters of the first call that has the
+/// right length and sites and passes the read check; otherwise those of the second. The
+/// letters handed back are that part of the lent call itself, as read and before any
+/// mending. If neither call passes, the pair is refused as 21".
+#[test]
+fn two_calls_of_seed_1() {
+    let card = card_p();
+    let p = handed(&card);
+    let clean: &[u8] =
+        b"GTTTCAGAGTTCTACAGTCCGACGATCAAAAAAAAAAAAAAACTGCAATCGTCATTGGAATTCTCGGGTGCCAAGG";
+    // The strand's first letter misread; the last letter of the site before it; and the
+    // site's first one lost.
+    let mended: &[u8] =
+        b"GTTTCAGAGTTCTACAGTCCGACGATCTAAAAAAAAAAAAAACTGCAATCGTCATTGGAATTCTCGGGTGCCAAGG";
+    let wrong_site: &[u8] =
+        b"GTTTCAGAGTTCTACAGTCCGACGATTAAAAAAAAAAAAAAACTGCAATCGTCATTGGAATTCTCGGGTGCCAAGG";
+    let short: &[u8] =
+        b"TTTCAGAGTTCTACAGTCCGACGATCAAAAAAAAAAAAAAACTGCAATCGTCATTGGAATTCTCGGGTGCCAAGG";
+    assert_eq!((clean.len(), short.len()), (28 + 48, 28 + 47));
+    let (first, second) = (Ok(Choice::First), Ok(Choice::Second));
+    let refused = Err(Refusal(21));
+    for (one, other, choice, letters) in [
+        (clean, mended, first, "AAAAAAAAAAAAAAACTGCAATCGTCAT"),
+        (mended, clean, first, "TAAAAAAAAAAAAAACTGCAATCGTCAT"),
+        (wrong_site, mended, second, "TAAAAAAAAAAAAAACTGCAATCGTCAT"),
+        (short, clean, second, "AAAAAAAAAAAAAAACTGCAATCGTCAT"),
+        (clean, short, first, "AAAAAAAAAAAAAAACTGCAATCGTCAT"),
+        (short, wrong_site, refused, ""),
+    ] {
+        assert_eq!(choose_call(&p, one, other), choice);
+        assert_eq!(call_letters(&p, one, other), letters.as_bytes());
+    }
+    // "after the card questions"
+    let wrong_4 = Handed { weights: &[], ..p };
+    assert_eq!(choose_call(&wrong_4, short, short), Err(Refusal(4)));
+    assert_eq!(choose_call(&wrong_4, clean, clean), Err(Refusal(4)));
+    assert_eq!(call_letters(&wrong_4, clean, clean), b"");
 }
 
 /// Card P with W = 3, and its weights apart from the field. Document 02, Item 14:

@@ -1,6 +1,7 @@
-//! What the C host must print for the bench reads (`host/bench.expected`), by this implementation's read check.
+//! What the C hosts must print for the bench reads (`host/bench.expected`) and for pairs of calls (`host/bench.pairs.expected`), by this
+//! implementation's read check and its choice between two base callers.
 
-use second::read_check;
+use second::{call_letters, read_check};
 use std::fs;
 use std::path::PathBuf;
 
@@ -31,4 +32,22 @@ fn expected_output_of_the_host() {
         }
     }
     assert_eq!(printed, String::from_utf8(host("bench.expected")).unwrap());
+}
+
+#[test]
+fn expected_letters_of_pairs() {
+    let card = host("bench.card");
+    let accepted = second::read_card(&card).expect("the bench card is accepted");
+    let handed = accepted.handed(&card);
+    let calls = host("bench.calls");
+    let mut printed = Vec::new();
+    for pair in second::listing::lines(&calls).chunks(2) {
+        printed.extend_from_slice(call_letters(&handed, pair[0], pair[1]));
+        printed.push(b'\n');
+    }
+    assert!(
+        printed == host("bench.pairs.expected"),
+        "{}",
+        String::from_utf8_lossy(&printed)
+    );
 }

@@ -1,6 +1,6 @@
--- The C forms of the card reader, the card cutter, the writer, the seed at a position, storing, restoring, dealing and undealing: for each
--- the number returned and the lent answer, by the cases of what the call itself answers, and with it the buffers. A refusal leaves the
--- answer as it was. Assumes nothing.
+-- The C forms of the card reader, the card cutter, the writer, the seed at a position, the choice between two calls, storing, restoring,
+-- dealing and undealing: for each the number returned and the lent answer, by the cases of what the call itself answers, and with it the
+-- buffers. A refusal leaves the answer as it was. Assumes nothing.
 use mathlib.Core.Path.{_≡_}
 use mathlib.Core.Bool.{Bool, false, cond}
 use mathlib.Core.List.{List, [], _∷_}
@@ -16,6 +16,7 @@ use Rattle.strand.specs.declared.writer.Stop.{Stop}
 use Rattle.strand.specs.declared.writer.Stop.the-variants.{Done, Spent}
 use Rattle.strand.specs.Writer.{Written, writerAnswer, WriterLeaves}
 use Rattle.split.specs.SeedPosition.{SeedReply}
+use Rattle.basecalls.specs.TwoCallers.{Choice}
 use Rattle.decoder.specs.Store.{Stored, storeRead, keptAnswer, keptBuffer}
 use Rattle.decoder.specs.Restorer.{Restored, restore, restoreRefusal, endAnswer, endState}
 
@@ -64,6 +65,12 @@ pub record WriteForm (c : Card) (weights file : List ℕ) (start wanted budget :
 unfoldable pub seedReturned : List ℕ → SeedReply → Returned
 seedReturned answer (SeedReply.seed s) = returned 0 (s ∷ [])
 seedReturned answer (SeedReply.refused n) = returned n answer
+
+-- the choice between two calls: 0 for the first, 1 for the second
+unfoldable pub choiceReturned : List ℕ → Choice → Returned
+choiceReturned answer Choice.first = returned 0 (0 ∷ [])
+choiceReturned answer Choice.second = returned 0 (1 ∷ [])
+choiceReturned answer (Choice.refused n) = returned n answer
 
 -- storing: 0 for accepted, 1 for a repeat, 2 for replaced, and the count after it
 unfoldable pub storeReturned : List ℕ → Stored → Returned

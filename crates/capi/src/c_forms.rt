@@ -3,8 +3,11 @@ ghost use mathlib.Core.Bool.{true, false};
 ghost use Rattle.droplet.specs.Questions.{cardReading};
 ghost use Rattle.strand.specs.CForm.{handedCard};
 ghost use Rattle.split.specs.SeedPosition.{seedAt};
-ghost use Rattle.capi.specs.CForms.{flagNumber, cardReturned, stopNumber, seedReturned, CutForm, WriteForm, StoreForm, RestoreForm, ReorderForm};
+ghost use Rattle.basecalls.specs.TwoCallers.{chooseCall};
+ghost use Rattle.capi.specs.CForms.{flagNumber, cardReturned, stopNumber, seedReturned, choiceReturned, CutForm, WriteForm, StoreForm, RestoreForm, ReorderForm};
 ghost use Rattle.capi.specs.CForms.Returned.{returned};
+use basecalls::choice;
+use basecalls::choice::ChoiceAnswer;
 use decoder::restorer;
 use decoder::restorer::RestoreAnswer;
 use decoder::store;
@@ -144,6 +147,39 @@ pub extern "C" fn fountain_seed_at(start: u32, steps: u32, answer: &mut [u64; 1]
         SeedAnswer::Refused(n) => n as u32,
         SeedAnswer::Seed(seed) => {
             *answer = [seed as u64];
+            0
+        }
+    }
+}
+
+// The choice between two calls of an ordered strand: 0 for the first, 1 for the second. The host takes the middle of the call itself.
+#[no_mangle]
+pub extern "C" fn fountain_choose_call(
+    f: u32,
+    l: u8,
+    r: u8,
+    m: u8,
+    lo: u16,
+    hi: u16,
+    dealt: u8,
+    width: u32,
+    weights: &[u8],
+    first: &[u8],
+    second: &[u8],
+    answer: &mut [u64; 1],
+) -> u32
+    ensures { λ n. ⌜ returned n (now (answer .exit)) ≡ choiceReturned (now (answer .entry))
+        (chooseCall (handedCard f l r m lo hi dealt width) (now (weights .entry)) (now (first .entry)) (now (second .entry))) ⌝ }
+{
+    let card = handed_card(f, l, r, m, lo, hi, dealt, width);
+    match choice::choose_call(card, weights, first, second) {
+        ChoiceAnswer::Refused(n) => n as u32,
+        ChoiceAnswer::First => {
+            *answer = [0];
+            0
+        }
+        ChoiceAnswer::Second => {
+            *answer = [1];
             0
         }
     }

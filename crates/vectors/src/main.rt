@@ -1,8 +1,9 @@
-// Runs published Reed-Solomon values, the examples of document 01 that are not starred, and misread bytes put right (document 02, Item 3),
-// and prints what comes out. What it must print stands in the file `stdout`; the second implementation prints the same from its own code.
+// Runs published Reed-Solomon values, the examples of document 01 that are not starred, misread bytes put right (document 02, Item 3) and
+// pairs of calls (Item 8), and prints what comes out. What it must print stands in the file `stdout`; the second implementation prints the same from its own code.
 ghost use Prim.Native.Nat.{_≤_};
 ghost use lib.ListN.{length};
 ghost use Rattle.field.specs.CheckBytes.{CheckCount};
+use basecalls::choice;
 use correction::correct;
 use correction::correct::Correction;
 use decoder::restorer;
@@ -186,6 +187,31 @@ fn misread_strands(weights: &[u8]) {
     print_read(weights, b"TAAAAAAAAAAAAAACTGCAATCGTCAC");
 }
 
+// The letters that are handed back of two calls under the bench card. From C a host takes them itself, so that only a program in this
+// language sees the part.
+fn print_letters<'a>(weights: &[u8], first: &'a [u8], second: &'a [u8]) {
+    io::write_all(1, b"letters ");
+    io::write_all(
+        1,
+        choice::chosen_letters(bench_card(), weights, first, second),
+    );
+    io::write_all(1, b"\n");
+}
+
+// Two calls of the strand of seed 1, one of them with a letter of it misread; then the first with a letter of a site wrong, and with one
+// letter too few; and two of which neither passes.
+fn pairs_of_calls(weights: &[u8]) {
+    let clean = b"GTTTCAGAGTTCTACAGTCCGACGATCAAAAAAAAAAAAAAACTGCAATCGTCATTGGAATTCTCGGGTGCCAAGG";
+    let misread = b"GTTTCAGAGTTCTACAGTCCGACGATCTAAAAAAAAAAAAAACTGCAATCGTCATTGGAATTCTCGGGTGCCAAGG";
+    let site = b"GTTTCAGAGTTCTACAGTCCGACGATCAAAAAAAAAAAAAAACTGCAATCGTCATTGGAATTCTCGGGTGCCAAGC";
+    let short = b"TTTCAGAGTTCTACAGTCCGACGATCAAAAAAAAAAAAAAACTGCAATCGTCATTGGAATTCTCGGGTGCCAAGG";
+    print_letters(weights, clean, misread);
+    print_letters(weights, misread, clean);
+    print_letters(weights, site, misread);
+    print_letters(weights, short, clean);
+    print_letters(weights, short, site);
+}
+
 fn main() {
     reed_solomon(&[1], &[0x12, 0x34, 0x56]);
     published_words();
@@ -197,4 +223,5 @@ fn main() {
     io::write_all(1, b"AAAN: ");
     print_store(store::store_read(bench_card(), &weights, &mut buffer, 0, b"AAAN"));
     misread_strands(&weights);
+    pairs_of_calls(&weights);
 }

@@ -6,6 +6,7 @@
 
 #![allow(dead_code)]
 
+pub mod calls;
 pub mod cards;
 pub mod check_read;
 pub mod drops;

@@ -11,6 +11,7 @@ use second::check_bytes_letters_screen::{
 use second::mending::mend;
 
 /// A read, and what it was made of.
+#[derive(Clone)]
 pub struct Read {
     pub letters: Vec<u8>,
     /// The bytes of the strand as it was printed.
@@ -107,6 +108,15 @@ pub fn let_pass(random: &mut Random, numbers: &mut Numbers, read: &[u8]) {
     } else {
         random.between(up, 1000)
     } as u16;
+}
+
+/// Widens m, lo and hi so that the read passes the screen as well as those that did, unless a run is over 20.
+pub fn let_pass_too(numbers: &mut Numbers, read: &[u8]) {
+    let thousandths = 1000 * gc(read) / read.len();
+    let up = (1000 * gc(read)).div_ceil(read.len());
+    numbers.m = numbers.m.max(longest_run(read).min(20) as u8);
+    numbers.lo = numbers.lo.min(thousandths as u16);
+    numbers.hi = numbers.hi.max(up as u16);
 }
 
 /// Sets one of m, lo and hi so that the read just misses the screen, if there is such a value.

@@ -1,0 +1,4 @@
+pub mod CallCases
+pub mod Choices
+pub mod PassingCalls
+pub mod ChosenLetters

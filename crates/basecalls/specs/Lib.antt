@@ -1,0 +1,3 @@
+pub mod TwoCallers
+pub mod ChosenLetters
+pub mod Examples
