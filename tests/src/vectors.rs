@@ -1,5 +1,5 @@
-//! Published Reed-Solomon values and the examples of document 01 that are not starred, run by this implementation. The text is
-//! what the Rattle program `vectors` must print.
+//! Published Reed-Solomon values, the examples of document 01 that are not starred, misread bytes put right (document 02, Item 3) and pairs
+//! of calls (Item 8), run by this implementation. The text is what the Rattle program `vectors` must print.
 
 use crate::check_bytes_letters_screen::{check_bytes, check_sums, order};
 use crate::mending::mend;
