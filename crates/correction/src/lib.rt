@@ -1,4 +1,6 @@
 // Between the first layer and the third: error correction, which puts misread bytes of a word right.
+#![tactic(auto)]
+
 pub mod correct;
 pub mod locators;
 pub mod products;

@@ -1,5 +1,7 @@
 // The listing program of document 01: reads the pool card from pool.card and reads from standard input, one a line, and prints
 // how they were answered, what a restore from them finds, and how many reads are behind the records (document 02, Item 6).
+#![tactic(auto)]
+
 mod behind;
 mod input;
 mod tally;

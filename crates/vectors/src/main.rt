@@ -1,5 +1,7 @@
 // Runs published Reed-Solomon values, the examples of document 01 that are not starred, misread bytes put right (document 02, Item 3) and
 // pairs of calls (Item 8), and prints what comes out. What it must print stands in the file `stdout`; the second implementation prints the same from its own code.
+#![tactic(auto)]
+
 ghost use Rattle.std.specs.Prelude.{◌≤◌, length};
 ghost use Rattle.field.specs.CheckBytes.{CheckCount};
 
