@@ -7,7 +7,7 @@ use droplet::card;
 use droplet::card::{Card, PlanAnswer};
 
 // Which of two calls is chosen, or the number of the refusal.
-#[derive(Drop)]
+#[derive(Clone, Copy)]
 pub enum ChoiceAnswer {
     First,
     Second,

@@ -7,7 +7,7 @@ use crate::locators;
 use field::check_bytes;
 
 // How many bytes were corrected, or that no codeword is within R/2 bytes.
-#[derive(Drop)]
+#[derive(Clone, Copy)]
 pub enum Correction {
     Done(u8),
     Hopeless,

@@ -108,7 +108,7 @@ pub fn single_error(r: u8, s: [u8; 4]) -> bool
 }
 
 // The coefficients of the error locator.
-#[derive(Drop)]
+#[derive(Clone, Copy)]
 struct Locator {
     square: u8,
     linear: u8,
@@ -126,7 +126,7 @@ fn locator_of(s: [u8; 4]) -> Locator
 }
 
 // Two places, the larger one first, and the first number that this one leaves of the syndromes.
-#[derive(Drop)]
+#[derive(Clone, Copy)]
 pub struct TwoPlaces {
     pub p: usize,
     pub q: usize,

@@ -16,21 +16,21 @@ use field::generator::Draw;
 use strand::droplet_bytes::seed_of;
 
 // What a restore found: segments present, passes over the records, and records that contradict the segments.
-#[derive(Drop)]
+#[derive(Clone, Copy)]
 pub struct Sheet {
     pub present: u32,
     pub passes: u32,
     pub contradictions: usize,
 }
 
-#[derive(Drop)]
+#[derive(Clone, Copy)]
 pub enum RestoreAnswer {
     Restored(Sheet),
     Refused(u8),
 }
 
 // Which segments of a set are unmarked, as far as a step asks.
-#[derive(Drop)]
+#[derive(Clone, Copy)]
 pub enum Unmarked {
     None,
     One(u32),
@@ -38,14 +38,14 @@ pub enum Unmarked {
 }
 
 // What drawing a record's set finds: its degree, and which of its segments are unmarked.
-#[derive(Drop)]
+#[derive(Clone, Copy)]
 pub struct Drawn {
     pub degree: usize,
     pub unmarked: Unmarked,
 }
 
 // What the passes came to: marks set, and passes.
-#[derive(Drop)]
+#[derive(Clone, Copy)]
 pub struct Peeling {
     pub present: u32,
     pub passes: u32,

@@ -15,7 +15,7 @@ use strand::read_check;
 use strand::read_check::ReadOutcome;
 
 // What a store call answers: the count after it, or the number of the question that refused the read.
-#[derive(Drop)]
+#[derive(Clone, Copy)]
 pub enum StoreAnswer {
     Accepted(usize),
     Repeat(usize),
@@ -24,7 +24,7 @@ pub enum StoreAnswer {
 }
 
 // Where the first record of a seed starts, if there is one.
-#[derive(Drop)]
+#[derive(Clone, Copy)]
 enum Place {
     At(usize),
     Nowhere,

@@ -7,7 +7,7 @@ use crate::weights;
 use field::bytes::{copy, join, split, starts_with};
 
 // The numbers of a pool card: F, L, R, m, lo and hi; whether its file is interleaved (dealt), and the width W.
-#[derive(Drop)]
+#[derive(Clone, Copy)]
 pub struct Card {
     pub f: u32,
     pub l: u8,
@@ -20,31 +20,31 @@ pub struct Card {
 }
 
 // What the questions 2 to 4 learn on the way: K, D and the sum of the weights.
-#[derive(Drop)]
+#[derive(Clone, Copy)]
 pub struct Plan {
     pub segments: u32,
     pub degrees: u32,
     pub sum: u32,
 }
 
-#[derive(Drop)]
+#[derive(Clone, Copy)]
 pub enum PlanAnswer {
     Ready(Plan),
     Refused(u8),
 }
 
 // What the card reader answers: the numbers and D, or the refusal number.
-#[derive(Drop)]
+#[derive(Clone, Copy)]
 pub enum CardAnswer {
     Accepted(Card, u32),
     Refused(u8),
 }
 
 // A length in bases, and a length in bytes.
-#[derive(Drop)]
+#[derive(Clone, Copy)]
 pub struct Bases(pub usize);
 
-#[derive(Drop)]
+#[derive(Clone, Copy)]
 pub struct Bytes(pub usize);
 
 // Four bases are one byte.

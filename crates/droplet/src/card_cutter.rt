@@ -5,7 +5,7 @@ use crate::card::{Card, PlanAnswer};
 use field::bytes::copy_both;
 
 // What the card cutter answers: the card's length in bytes, or the refusal number.
-#[derive(Drop)]
+#[derive(Clone, Copy)]
 pub enum CutAnswer {
     Cut(usize),
     Refused(u8),

@@ -2,7 +2,7 @@ ghost use Rattle.std.specs.Prelude.{◌≡◌};
 ghost use Rattle.field.specs.Generator.{of_seed, after_draw, number_drawn, seed_after};
 
 // A draw state: the xorshift word and the Weyl word.
-#[derive(Drop)]
+#[derive(Clone, Copy)]
 pub struct Draw {
     pub x: u32,
     pub w: u32,

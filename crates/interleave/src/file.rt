@@ -7,7 +7,7 @@ use droplet::card::{Card, PlanAnswer};
 use field::bytes::copy;
 
 // What the two calls answer.
-#[derive(Drop)]
+#[derive(Clone, Copy)]
 pub enum ReorderAnswer {
     Done,
     Refused(u8),

@@ -7,7 +7,7 @@ use droplet::card::Card;
 
 // What the lines so far came to, the count of records that the next call is handed, and how many bytes of the line in hand are in
 // the line's buffer.
-#[derive(Drop)]
+#[derive(Clone, Copy)]
 pub struct Tally {
     pub reads: u64,
     pub accepted: u64,

@@ -3,7 +3,7 @@ ghost use Rattle.screen.specs.Letters.{letter_of, all_letters, byte_bases, byte_
 ghost use Rattle.screen.specs.Loops.{Reads, spelled};
 
 // The byte that four letters spell, or that one of them is no letter.
-#[derive(Drop)]
+#[derive(Clone, Copy)]
 pub enum Spelled {
     Byte(u8),
     Nothing,

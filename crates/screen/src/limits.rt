@@ -5,7 +5,7 @@ use crate::screen::Measure;
 use droplet::card::{Bases, Card};
 
 // What the card's limits make of a strand. One with both faults is dropped for its run.
-#[derive(Drop)]
+#[derive(Clone, Copy)]
 pub enum Verdict {
     Passes,
     LongRun,

@@ -9,7 +9,7 @@ use field::bytes;
 pub const LOW_BITS: u64 = 0x5555_5555_5555_5555;
 
 // The front of a word as a number, with a base before it, and the lower bits of its own bases.
-#[derive(Drop)]
+#[derive(Clone, Copy)]
 pub struct Front {
     pub number: u64,
     pub mask: u64,

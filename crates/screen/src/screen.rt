@@ -6,7 +6,7 @@ use crate::packed;
 
 // What the screen answers of a strand: its longest run of one base, counted through the sites of the order, and how many of its own
 // bases are C or G. Whether a card allows that, `limits` compares.
-#[derive(Drop)]
+#[derive(Clone, Copy)]
 pub struct Measure {
     pub longest: usize,
     pub gc: usize,

@@ -6,7 +6,7 @@ ghost use Rattle.split.specs.SeedPosition.{seed_answer, seed_at};
 use field::generator::step_seed;
 
 // What the call answers: the seed, or the number of the refusal.
-#[derive(Drop)]
+#[derive(Clone, Copy)]
 pub enum SeedAnswer {
     Seed(u32),
     Refused(u8),

@@ -35,9 +35,9 @@ fn hand_over(seed: u32, l: usize, payload: &[u8], out: &mut [u8]) -> u32
     0
 }
 
-// The read check for a host written in C: 0 and the droplet in the buffer's first 4 + L bytes, or the refusal number.
-#[unsafe(no_mangle)]
-pub extern "C" fn fountain_check_read(
+// The read check for a host written in C: 0 and the droplet in the buffer's first 4 + L bytes, or the refusal number. The crate strand_c
+// exports it.
+pub fn fountain_check_read(
     f: u32,
     l: u8,
     r: u8,

@@ -15,7 +15,7 @@ use screen::screen::measure_of;
 use screen::{letters, limits};
 
 // What the read check finds in a read: a droplet's seed, or the number of the question that refused it.
-#[derive(Drop)]
+#[derive(Clone, Copy)]
 pub enum ReadOutcome {
     Droplet(u32),
     Refused(u8),
@@ -23,7 +23,7 @@ pub enum ReadOutcome {
 
 // The outcome with the payload beside it, 64 bytes, those past L being 0, and how many bytes were corrected; all 0 on a refusal. The
 // number comes last: in the outcome it would move the payload to a place from which it is copied more slowly.
-#[derive(Drop)]
+#[derive(Clone, Copy)]
 pub struct ReadAnswer {
     pub outcome: ReadOutcome,
     pub payload: [u8; 64],

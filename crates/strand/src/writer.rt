@@ -14,7 +14,7 @@ use screen::screen::measure_of;
 use screen::{letters, limits};
 
 // Why the writer stopped: it made what was wanted, or it spent its budget of seeds.
-#[derive(Drop)]
+#[derive(Clone, Copy)]
 pub enum Stop {
     Done,
     Spent,
@@ -22,7 +22,7 @@ pub enum Stop {
 
 // How a writer run ended. `next` is the seed after the last one tried, and of the strands that were not made some were dropped for a
 // run, the others for GC alone.
-#[derive(Drop)]
+#[derive(Clone, Copy)]
 pub struct Run {
     pub stop: Stop,
     pub made: u32,
@@ -32,7 +32,7 @@ pub struct Run {
     pub dropped_gc: u32,
 }
 
-#[derive(Drop)]
+#[derive(Clone, Copy)]
 pub enum WriteAnswer {
     Written(Run),
     Refused(u8),
