@@ -1,0 +1,61 @@
+-- `step_record` meets its contract: one law for each way a turn can go. Assumes nothing.
+use mathlib.Core.Path.{◌≡◌, sym, ap, ◌∙◌}
+use mathlib.Core.Logic.{⊎_elim}
+use Prim.Native.Nat.{ℕ}
+use native.Mathlib.Omega.{arith}
+use lib.ListN.{length}
+use lib.Seq.{length-take-le}
+use Rattle.decoder.proofs.RecordBytes.{parts-fit}
+use Rattle.decoder.proofs.RecordTurns.{degree-places, stored-size, fill-list, fill-place, fill-mark, turn-none, turn_one}
+use borrow.Author.Rules.{rules}
+use Rattle.decoder.proofs.restorer.step_record.Goals as goal
+
+pub draw_record-drawn-requires : goal.draw_record-drawn-requires
+draw_record-drawn-requires c = let parts = parts-fit c.args.l in search rules
+
+pub returns-in_default : goal.returns-in_default
+returns-in_default c =
+    let d = c in
+    let x = d in
+    turn-none _ _ _ x.args.bytes.now _ _ _ _ _ x.requires.0 x.requires.1 d.draw_record-drawn.ensures
+    (λ s e. ⊎_elim (λ (h : ◌≡◌ {A = ℕ} 1 0). omega arith) (λ (h : ◌≡◌ {A = ℕ} 1 2). omega arith) (rw e at c.in_default.keys2))
+
+pub payload_in-requires : goal.payload_in-requires
+payload_in-requires c =
+    let x = c in
+    (x.requires.1.narrow, omega arith)
+
+pub slice_bounds-fill-end : goal.slice_bounds-fill-end
+slice_bounds-fill-end c =
+    let d = c in
+    let x = d in
+    let places = degree-places _ _ _ x.args.bytes.now _ _ _ _ _ x.requires.0 x.requires.1 d.draw_record-drawn.ensures in
+    search rules
+
+pub slice_bounds-fill-end-2 : goal.slice_bounds-fill-end-2
+slice_bounds-fill-end-2 c =
+    let d = c in
+    let x = d in
+    let places = degree-places _ _ _ x.args.bytes.now _ _ _ _ _ x.requires.0 x.requires.1 d.draw_record-drawn.ensures in
+    sym (length-take-le _ _ (omega arith))
+
+pub fill-requires : goal.fill-requires
+fill-requires c =
+    let d = c in
+    let x = d in
+    let bytes = x.args.bytes.now in
+    let seen = d.draw_record-drawn.ensures in
+    let lone = c.unmarked-1.given.1 in (
+      x.requires.1.narrow,
+      ap length c.payload_in.ensures ∙ stored-size _ _ _ bytes _ _ _ _ _ x.requires.0 x.requires.1 seen,
+      fill-list _ _ _ bytes _ _ _ _ _ x.requires.0 x.requires.1 seen _ lone,
+      fill-place _ _ _ bytes _ _ _ _ _ x.requires.0 x.requires.1 seen _ lone,
+      fill-mark _ _ _ bytes _ _ _ _ _ x.requires.0 x.requires.1 seen _ lone,
+    )
+
+pub returns : goal.returns
+returns c =
+    let d = c in
+    let x = d in
+    turn_one _ _ _ x.args.bytes.now _ _ _ _ _ x.requires.0 x.requires.1 d.draw_record-drawn.ensures _ c.unmarked-1.given.1 _ _
+    (rw c.payload_in.ensures at c.fill.ensures)

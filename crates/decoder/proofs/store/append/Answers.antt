@@ -1,0 +1,89 @@
+-- `append` meets its contract: a record where there is space for one, and the refusal where there is none. Assumes nothing.
+use mathlib.Core.Path.{◌≡◌, ap, ◌∙◌}
+use mathlib.Core.Bool.{Bool}
+use mathlib.Core.List.{List, [], ◌++◌, append-nil}
+use Prim.Native.Nat.{ℕ, suc, ◌+◌, ◌-◌, ◌*◌, ◌<◌, ◌≤◌}
+use native.Mathlib.Nat.{suc-mul, mul-le-mul_left}
+use native.Mathlib.Numerals.{add-one}
+use native.Mathlib.Omega.{arith}
+use borrow.Author.Tests.{le-leb, lt-leb}
+use lib.ListN.{length, take, drop, length-take, drop_of_length-le}
+use lib.Seq.{drop-drop}
+use Rattle.decoder.specs.declared.store.StoreAnswer.TheVariants.{Accepted, Refused}
+use Rattle.decoder.specs.Store.{Record, record_bytes, record_text, accepted, overwritten, appended}
+use Rattle.decoder.specs.StoreLoops.{Keeps}
+use Rattle.decoder.proofs.RecordBytes.{parts-fit, text-size}
+use borrow.Author.Rules.{rules}
+use Rattle.decoder.proofs.store.append.Goals as goal
+
+module _ (buffer : List ℕ) (count seed : ℕ) (payload : List ℕ) (clean : Bool) (width : ℕ) (wide : width ≡ record_bytes (length payload)) where
+  abbrev at : ℕ
+  at = count * width
+
+  abbrev new : Record
+  new = record { read = record { seed = seed; payload = payload; clean = clean }; count = 1 }
+
+  full : length buffer - at < width → Keeps (appended (length payload) buffer count new.read) (Refused 16) buffer
+  unfolding appended
+  full h =
+      let less : length buffer < suc count * record_bytes (length payload) = rw (← wide, suc-mul) (omega arith) in
+      record { says = rw (lt-leb _ _ less); leaves = rw (lt-leb _ _ less) }
+
+  -- the record's place, lent from `at` up to `at + width`, came back as `part`
+  abbrev lent : ℕ
+  lent = at + width - at
+
+  more : (part : List ℕ) → width ≤ length buffer - at
+      → part ≡ record_text new ++ drop (record_bytes (length payload)) (take lent (drop at buffer))
+      → Keeps (appended (length payload) buffer count new.read) (Accepted (count + 1)) (take at buffer ++ (part ++ drop lent (drop at buffer)))
+  unfolding appended overwritten
+  more part h e =
+      let size : lent ≡ width = omega arith in
+      let space : suc count * record_bytes (length payload) ≤ length buffer = rw (← wide, suc-mul) (omega (arith, wide, parts-fit (length payload))) in
+      let none : drop (record_bytes (length payload)) (take lent (drop at buffer)) ≡ []
+      = drop_of_length-le (take lent (drop at buffer)) {i = record_bytes (length payload)} (rw length-take (omega (arith, wide))) in
+      let text : part ≡ record_text new = e ∙ rw (none, append-nil) in
+      record {
+        says = rw (le-leb _ _ space) (ap accepted (add-one count));
+        leaves = rw (le-leb _ _ space, text, size, drop-drop, text-size new, ← wide);
+      }
+
+pub returns-then-store-at : goal.returns-then-store-at
+returns-then-store-at c =
+    let w = c.before in
+    let args = w.before.before.before.args in
+    full args.store-1.now args.count args.seed args.payload.now args.clean _ w.record_bytes-width.ensures (omega arith)
+
+-- the records so far, by the one function
+fits : (c : goal.After-record_bytes-width)
+    → (let x = c.before.before.before.args in x.count * c.record_bytes-width.result ≤ length x.store-1.now)
+fits c = rw c.record_bytes-width.ensures c.before.before.before.requires.fits
+
+pub overflow_mul-at : goal.overflow_mul-at
+overflow_mul-at c = let h = fits c in search rules
+
+pub overflow-sub-if1 : goal.overflow-sub-if1
+overflow-sub-if1 c = let h = fits c in search rules
+
+pub overflow_add-end : goal.overflow_add-end
+overflow_add-end c = let h = fits c.before in search rules
+
+pub slice_bounds-put_record-end : goal.slice_bounds-put_record-end
+slice_bounds-put_record-end c = let h = fits c.before in search rules
+
+-- there are no more records than bytes
+pub overflow-add-t10 : goal.overflow-add-t10
+overflow-add-t10 c =
+    let w = c.before.before.before.before.before in
+    let args = w.before.before.before.args in
+    let h = fits w in
+    let least : 1 ≤ w.record_bytes-width.result = omega (arith, w.record_bytes-width.ensures, parts-fit (length args.payload.now)) in
+    let few = mul-le-mul_left args.count least in
+    search rules
+
+pub returns : goal.returns
+returns c =
+    let w = c.before.before.before.before.before in
+    let args = w.before.before.before.args in
+    more args.store-1.now args.count args.seed args.payload.now args.clean _ w.record_bytes-width.ensures _ (omega arith)
+    c.before.before.put_record.ensures

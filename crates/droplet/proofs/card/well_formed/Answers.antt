@@ -1,0 +1,55 @@
+-- `well_formed` meets its contract: a card shorter than its head, or than its third field says, is none. Assumes nothing.
+use mathlib.Core.Path.{◌≡◌, refl, sym, ◌∙◌}
+use mathlib.Core.Bool.{true, false}
+use mathlib.Core.List.{List}
+use mathlib.Core.Logic.{inl, inr}
+use Prim.Native.Nat.{ℕ, ◌-◌, ◌%◌, ◌≤◌, ◌<◌}
+use native.Mathlib.Omega.{arith}
+use lib.Dec.{eqb}
+use lib.ListN.{length}
+use Rattle.field.specs.Bytes.{same_bytes}
+use Rattle.field.proofs.Tests.{either}
+use Rattle.droplet.specs.PoolCard.{card_bytes, weights_start, weights_end, card_numbers, card_weights, well_formed}
+use Rattle.droplet.proofs.Conjunctions.{and_then, and-else}
+use Rattle.droplet.proofs.CardBytes.{well-formed-long, head-before-end, head-there, weights-length}
+use Rattle.droplet.proofs.card.well_formed.Goals as goal
+
+module _ (card : List ℕ) where
+  no : (well_formed card ≡ true → ⊥) → false ≡ well_formed card
+  no h = elim (either (well_formed card)) [ inl e ↦ absurd (h e) | inr e ↦ sym e ]
+
+  too_short : length card < weights_start → false ≡ well_formed card
+  too_short h = no (λ w. let z : ⊥ = omega (arith, head-there card (well-formed-long card w)) in z)
+
+  module _ (end : ℕ) (e : end ≡ weights_end card) where
+    cut_off : length card < end → false ≡ well_formed card
+    cut_off h = no (λ w. let z : ⊥ = omega (arith, e, well-formed-long card w) in z)
+
+    by_four : end ≤ length card → eqb ((end - weights_start) % 4) 0 ≡ eqb (length (card_weights card) % 4) 0
+    by_four h = rw (e, weights-length card (omega (arith, e)))
+
+pub returns-then-bytes-lt20 : goal.returns-then-bytes-lt20
+returns-then-bytes-lt20 c = too_short _ c.if-bytes-lt20.true
+
+pub returns-then-bytes-end : goal.returns-then-bytes-end
+returns-then-bytes-end c = cut_off _ _ c.before.weights_end-end.ensures.0 c.if-bytes-end.true
+
+-- compared with the card of its own numbers
+own : (c : goal.After-is_card) → (let card = c.before.before.before.before.before.before.args.bytes.now in
+    c.is_card.result ≡ same_bytes card (card_bytes (card_numbers card) (card_weights card)))
+own c = c.is_card.ensures ∙ rw c.before.card_numbers.ensures
+
+pub overflow_sub-result : goal.overflow_sub-result
+overflow_sub-result c =
+    let end = c.before.before.before.before in
+    omega (arith, head-before-end end.before.before.before.args.bytes.now, end.weights_end-end.ensures.0)
+
+pub returns-then-is_card : goal.returns-then-is_card
+unfolding well_formed
+returns-then-is_card c =
+    let end = c.before.before.before.before in
+    and_then (own c.before) c.if-is_card.true (by_four _ _ end.weights_end-end.ensures.0 c.before.before.before.if-bytes-end.false)
+
+pub returns-else-is_card : goal.returns-else-is_card
+unfolding well_formed
+returns-else-is_card c = and-else _ (own c.before) c.if-is_card.false refl

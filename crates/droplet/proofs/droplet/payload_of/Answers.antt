@@ -1,0 +1,53 @@
+-- What the search leaves. Assumes nothing.
+use mathlib.Core.Path.{◌≡◌, refl, sym, ap, ◌∙◌}
+use mathlib.Core.List.{List}
+use Prim.Native.Nat.{ℕ, ◌+◌, ◌-◌, ◌<◌, ◌≤◌}
+use native.Mathlib.Numerals.{add-one}
+use native.Mathlib.Omega.{arith}
+use lib.ListN.{length, get_or, take, replicate, length-replicate, replicate-append-replicate}
+use lib.Seq.{take_all, take-suc}
+use Rattle.field.specs.Bytes.{padded}
+use Rattle.droplet.specs.Droplet.{segment, payload}
+use Rattle.droplet.specs.Loops.{xor_front}
+use Rattle.droplet.proofs.XorFront.{front-padded}
+use Rattle.droplet.proofs.Payload.{segment-length, payload-last, payload-length}
+use borrow.Author.Rules.{rules}
+use Rattle.droplet.proofs.droplet.payload_of.Goals as goal
+
+padded-zeros : (n L : ℕ) → L ≤ n → padded n (replicate L 0) ≡ replicate n 0
+unfolding padded
+padded-zeros n L h =
+    let e : L + (n - L) ≡ n = omega arith in
+    rw (length-replicate, replicate-append-replicate, e)
+
+-- a turn
+turned : (L : ℕ) (file list p : List ℕ) (i n : ℕ) → i < length list → p ≡ padded n (payload L file (take i list))
+    → xor_front p (segment L file (get_or list i 0)) ≡ padded n (payload L file (take (i + 1) list))
+turned L file list p i n h e =
+    let s = get_or list i 0 in
+    let q = payload L file (take i list) in
+    rw (
+      e,
+      front-padded n q (segment L file s) (payload-length L file (take i list) ∙ sym (segment-length L file s)),
+      ← payload-last L file (take i list) s,
+      add-one i,
+      take-suc list i 0 h,
+    )
+
+pub loop-at-init : goal.loop-at-init
+unfolding payload
+loop-at-init c = (search rules, refl, sym (padded-zeros 64 _ c.requires))
+
+pub loop-at-preserved : goal.loop-at-preserved
+loop-at-preserved c =
+    let l = c.loop-at in (
+      search rules,
+      search rules,
+      c.xor_segment.ensures ∙ turned _ _ _ _ _ _ c.loop-at-test.true l.invariant.2,
+    )
+
+pub returns : goal.returns
+returns c =
+    let a = c.args in
+    c.loop-at.invariant.2
+    ∙ ap (λ (xs : List ℕ). padded 64 (payload a.l a.file.now xs)) (take_all _ a.list.now c.loop-at-test.false)

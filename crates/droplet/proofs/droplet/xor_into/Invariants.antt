@@ -1,0 +1,12 @@
+-- `xor_into` meets its contract. The invariant: the first `b` bytes of `q` are XORed in. Assumes nothing.
+use mathlib.Core.Path.{◌≡◌}
+use Prim.Native.Nat.{◌-◌, ◌≤◌}
+use lib.ListN.{length, take}
+use Rattle.droplet.specs.Loops.{xor_front}
+use Rattle.droplet.proofs.droplet.xor_into.Given as goal
+
+abbrev pub invariant-loop-b : goal.invariant-loop-b
+invariant-loop-b l = (l.b ≤ length l.initial.p) × (l.p ≡ xor_front l.q (take l.b l.initial.p)) × (length l.p ≡ length l.q)
+
+abbrev pub decreases-loop-b : goal.decreases-loop-b
+decreases-loop-b l = length l.initial.p - l.b

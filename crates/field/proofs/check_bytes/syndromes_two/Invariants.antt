@@ -1,0 +1,13 @@
+-- `syndromes_two` meets its contract: what is left of the word takes the sums to the syndromes. Assumes nothing.
+use Rattle.std.proofs.Common.{◌≡◌, ◌-◌, ◌≤◌, [], ◌∷◌, length, drop}
+use mathlib.Core.List.{foldl}
+use Rattle.field.specs.CheckBytes.{syndromes}
+use Rattle.field.specs.Loops.{sums_after}
+use Rattle.field.proofs.check_bytes.syndromes_two.Given as goal
+
+abbrev pub invariant-loop-j : goal.invariant-loop-j
+invariant-loop-j l =
+    (l.j ≤ length l.word) × (foldl (sums_after 2) (l.zero ∷ l.one ∷ 0 ∷ 0 ∷ []) (drop l.j l.word) ≡ syndromes 2 l.word)
+
+abbrev pub decreases-loop-j : goal.decreases-loop-j
+decreases-loop-j l = length l.word - l.j

@@ -1,0 +1,72 @@
+-- What the search leaves. Assumes nothing.
+use mathlib.Core.Path.{◌≡◌, refl, ap, ◌∙◌}
+use mathlib.Core.List.{List}
+use Prim.Native.Nat.{ℕ, ◌+◌, ◌-◌, ◌*◌, ◌/◌, ◌%◌, ◌^◌, ◌<◌, zero-le}
+use native.Mathlib.Omega.{arith}
+use lib.Bits.{bit_and, bit_or, and_le_l, and_le_r, or_add_and}
+use lib.ListN.{length, get_or, set, length-set}
+use lib.Seq.{get_or-set_other, take_all}
+use Rattle.screen.specs.Loops.{chunks_number, thinned}
+use Rattle.screen.proofs.Chunks.{chunks-next, chunks-set}
+use Rattle.screen.proofs.MatchRows.{thinned-block}
+use Rattle.screen.proofs.packed.thin.Invariants.{Thins, first}
+use Rattle.screen.proofs.packed.thin.Goals as goal
+
+-- a turn of the loop
+module _ (xs zs : List ℕ) (any before i : ℕ) (now : Thins xs zs any before i) (here : i < length xs) where
+  -- the number that is read
+  abbrev m : ℕ
+  m = get_or zs i 0
+
+  -- the first numbers with it
+  grows : first xs (i + 1) ≡ first xs i * 2 ^ 64 + m
+  grows = rw (now.kept i (omega arith)) (chunks-next xs i here)
+
+  -- the invariant holds again
+  next : (v : ℕ) → m < 2 ^ 64 → v ≡ bit_and m (before % 4 * 2 ^ 62 + m / 4) → Thins xs (set zs i v) (bit_or any m) m (i + 1)
+  next v h e =
+      let or = or_add_and any m in
+      let l = and_le_l any m in
+      let r = and_le_r any m in record {
+        at_most = omega arith;
+        long = simp length-set now.long;
+        kept = λ k j. get_or-set_other zs i k v 0 (λ q. omega arith) ∙ now.kept k (omega arith);
+        thins = rw grows (omega (
+          arith,
+          chunks-set zs i v (omega (arith, now.long)),
+          now.thins,
+          thinned-block (first xs i) m h,
+          rw now.last at e,
+        ));
+        last = rw grows (omega arith);
+        none = λ q. rw grows (omega (arith, now.none (omega arith)));
+        no-any = λ q. omega (arith, grows, now.no-any (omega (arith, grows)));
+      }
+
+pub loop-i-init : goal.loop-i-init
+unfolding chunks_number thinned
+loop-i-init c = record {
+  at_most = zero-le;
+  long = refl;
+  kept = λ k h. refl;
+  thins = refl;
+  last = refl;
+  none = λ e. refl;
+  no-any = λ e. refl;
+}
+
+pub loop-i-preserved : goal.loop-i-preserved
+loop-i-preserved c =
+    let l = c.loop-i in
+    let xs = c.args.matches.now in
+    next xs l.matches l.any l l.i l.invariant (omega (arith, l.invariant.long)) _
+    (omega (arith, c.type_inv.matches l.i))
+    (ap (bit_and (get_or l.matches l.i 0)) c.moved.ensures)
+
+pub returns : goal.returns
+returns c =
+    let l = c.loop-i in
+    let xs = c.args.matches.now in
+    let all = take_all l.i xs (omega (arith, l.invariant.long)) in
+    let all-now = take_all l.i l.matches (omega arith) in
+    (rw (all, all-now) at l.invariant.thins, (rw all at l.invariant.none, rw all at l.invariant.no-any))

@@ -1,0 +1,30 @@
+-- `hand_over` meets its contract: too short a buffer is left alone, any other gets the record. Assumes nothing.
+use mathlib.Core.Path.{◌≡◌, sym}
+use native.Mathlib.Omega.{arith}
+use borrow.Author.Tests.{le-leb, lt-leb}
+use lib.ListN.{length, take}
+use lib.Seq.{length-take-le}
+use Rattle.strand.specs.CForm.{droplet_over}
+use Rattle.strand.proofs.c_form.hand_over.Goals as goal
+
+pub returns-then-out-l : goal.returns-then-out-l
+unfolding droplet_over
+returns-then-out-l c = simp (lt-leb _ _ c.if-out-l.true)
+
+pub slice_bounds-put_droplet-end : goal.slice_bounds-put_droplet-end
+slice_bounds-put_droplet-end c = sym (length-take-le _ _ (omega arith))
+
+pub put_droplet-requires : goal.put_droplet-requires
+put_droplet-requires c =
+    let s = c in
+    let n : length (take s.args.l s.args.payload.now) ≡ s.args.l = length-take-le _ _ (omega arith) in
+    omega (arith, n, c.if-out-l.false)
+
+pub returns : goal.returns
+unfolding droplet_over
+returns c =
+    let q = c in
+    let e = q in
+    let s = e in
+    let n : length (take s.args.l s.args.payload.now) ≡ s.args.l = length-take-le _ _ (omega arith) in
+    rw (le-leb _ _ e.if-out-l.false, q.put_droplet.ensures, n)
