@@ -1,5 +1,5 @@
 -- What the search leaves. Assumes nothing.
-use Rattle.std.proofs.Common.{◌≡◌, ℕ, ◌+◌, ◌-◌, ◌<◌, ◌≤◌, List, ◌++◌, length, drop, set, replicate, ◌∙◌, append_assoc, append-nil, add-one, arith, length-set, drop_of_length-le, drop-cons}
+use Rattle.std.proofs.Common.{◌≡◌, ℕ, ◌+◌, ◌<◌, ◌≤◌, List, ◌++◌, length, drop, set, replicate, ◌∙◌, append_assoc, append-nil, add-one, arith, length-set, drop_of_length-le, drop-cons}
 use lib.ListN.{length-replicate, replicate-append-replicate}
 use lib.Seq.{set_at}
 use Rattle.field.proofs.bytes.clear.Goals as goal

@@ -1,5 +1,5 @@
 -- What the search leaves. Assumes nothing.
-use Rattle.std.proofs.Common.{◌≡◌, ℕ, ◌+◌, ◌-◌, ◌<◌, ◌≤◌, List, ◌++◌, length, get_or, take, drop, set, ◌∙◌, append_assoc, add-one, arith, length-set, length-take-le, drop-cons, take-suc}
+use Rattle.std.proofs.Common.{◌≡◌, ℕ, ◌+◌, ◌<◌, ◌≤◌, List, ◌++◌, length, get_or, take, drop, set, ◌∙◌, append_assoc, add-one, arith, length-set, length-take-le, drop-cons, take-suc}
 use lib.Seq.{take-length, set_at}
 use Rattle.field.proofs.bytes.copy.Goals as goal
 

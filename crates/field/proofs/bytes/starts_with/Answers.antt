@@ -1,5 +1,5 @@
 -- What the search leaves. Assumes nothing.
-use Rattle.std.proofs.Common.{◌≡◌, ℕ, ◌+◌, ◌-◌, ◌<◌, ◌≤◌, true, ◌&&◌, eqb, Bool, List, length, get_or, take, drop, sym, refl, ◌∙◌, add-one, arith, drop_of_length-le, length-take-le, drop-cons, get_or-take, rules, eq-eqb, ne_eqb}
+use Rattle.std.proofs.Common.{◌≡◌, ℕ, ◌+◌, ◌<◌, ◌≤◌, true, ◌&&◌, eqb, Bool, List, length, get_or, take, drop, sym, refl, ◌∙◌, add-one, arith, drop_of_length-le, length-take-le, drop-cons, get_or-take, rules, eq-eqb, ne_eqb}
 use Rattle.field.specs.Bytes.{same_bytes}
 use Rattle.field.proofs.bytes.starts_with.Goals as goal
 

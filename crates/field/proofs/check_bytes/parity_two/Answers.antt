@@ -1,5 +1,5 @@
 -- What the search leaves. Assumes nothing.
-use Rattle.std.proofs.Common.{◌≡◌, ℕ, ◌-◌, [], ◌∷◌, refl, ap, zero-le, arith}
+use Rattle.std.proofs.Common.{◌≡◌, ℕ, [], ◌∷◌, refl, ap, zero-le, arith}
 use lib.Bits.{bit_xor}
 use Rattle.field.specs.Bytes.{padded, xor_lists}
 use Rattle.field.specs.CheckBytes.{double, remainder_after, parity, multiple, by_root, times_power}

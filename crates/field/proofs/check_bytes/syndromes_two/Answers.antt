@@ -1,5 +1,5 @@
 -- What the search leaves. Assumes nothing.
-use Rattle.std.proofs.Common.{◌≡◌, ℕ, ◌-◌, [], ◌∷◌, zero-le, arith}
+use Rattle.std.proofs.Common.{◌≡◌, ℕ, [], ◌∷◌, zero-le, arith}
 use lib.Bits.{bit_xor}
 use Rattle.field.specs.CheckBytes.{double, times_power}
 use Rattle.field.specs.Loops.{sums_after}

@@ -1,5 +1,5 @@
 -- What the search leaves. Assumes nothing.
-use Rattle.std.proofs.Common.{◌≡◌, ℕ, ◌+◌, ◌-◌, ◌*◌, ◌^◌, ◌<◌, get_or, ap, zero-le, lt_of_lt_of_le, arith, lit<, pow_mono, pow-add}
+use Rattle.std.proofs.Common.{◌≡◌, ℕ, ◌+◌, ◌*◌, ◌^◌, ◌<◌, get_or, ap, zero-le, lt_of_lt_of_le, arith, lit<, pow_mono, pow-add}
 use Rattle.field.specs.CheckBytes.{horner}
 use Rattle.field.proofs.Remainders.{value-zero, goes_end, byte-turn}
 use Rattle.field.proofs.check_four.number_of.Goals as goal

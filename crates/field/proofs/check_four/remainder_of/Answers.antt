@@ -1,5 +1,5 @@
 -- What the search leaves. Assumes nothing.
-use Rattle.std.proofs.Common.{◌≡◌, ◌+◌, ◌-◌, ◌%◌, length, sym, arith, length-take, length-take-le}
+use Rattle.std.proofs.Common.{◌≡◌, ◌+◌, ◌%◌, length, sym, arith, length-take, length-take-le}
 use Rattle.field.proofs.Remainders.{goes-from, goes_end, eight-turn}
 use Rattle.field.proofs.check_four.remainder_of.Goals as goal
 
