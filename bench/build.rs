@@ -1,4 +1,4 @@
-//! Links the proved archives: those of `rt staticlib`, or the folder that ARCHIVES names.
+//! Links the proved archives: those of `host/build strand capi`, or the folder that ARCHIVES names.
 fn main() {
     let here = std::env::var("CARGO_MANIFEST_DIR").unwrap();
     let folder = std::env::var("ARCHIVES").unwrap_or(format!("{here}/../target/staticlib"));

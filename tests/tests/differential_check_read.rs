@@ -12,7 +12,7 @@ use differential::run::{run, Regions};
 use differential::wrong_bytes;
 
 #[cfg(strand_missing)]
-compile_error!("target/staticlib/libstrand.a is missing: `rt staticlib strand` makes it");
+compile_error!("target/staticlib/libstrand.a is missing: `host/build strand` makes it");
 
 #[link(name = "strand", kind = "static")]
 extern "C" {

@@ -16,10 +16,10 @@ use second::{call_letters, read_check, Choice, Refusal};
 use std::ptr;
 
 #[cfg(capi_missing)]
-compile_error!("target/staticlib/libcapi.a is missing: `rt staticlib capi` makes it");
+compile_error!("target/staticlib/libcapi.a is missing: `host/build capi` makes it");
 
 #[cfg(strand_missing)]
-compile_error!("target/staticlib/libstrand.a is missing: `rt staticlib strand` makes it");
+compile_error!("target/staticlib/libstrand.a is missing: `host/build strand` makes it");
 
 #[link(name = "capi", kind = "static")]
 extern "C" {

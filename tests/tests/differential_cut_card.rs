@@ -11,7 +11,7 @@ use second::questions::{question_2, question_27, question_3, question_4};
 use second::Handed;
 
 #[cfg(capi_missing)]
-compile_error!("target/staticlib/libcapi.a is missing: `rt staticlib capi` makes it");
+compile_error!("target/staticlib/libcapi.a is missing: `host/build capi` makes it");
 
 #[link(name = "capi", kind = "static")]
 extern "C" {

@@ -13,7 +13,7 @@ use second::droplet::{degree, payload, set_of_segments};
 use second::DrawState;
 
 #[cfg(capi_missing)]
-compile_error!("target/staticlib/libcapi.a is missing: `rt staticlib capi` makes it");
+compile_error!("target/staticlib/libcapi.a is missing: `host/build capi` makes it");
 
 #[link(name = "capi", kind = "static")]
 extern "C" {

@@ -9,7 +9,7 @@ use differential::run::{run, Regions};
 use second::schedule_step;
 
 #[cfg(capi_missing)]
-compile_error!("target/staticlib/libcapi.a is missing: `rt staticlib capi` makes it");
+compile_error!("target/staticlib/libcapi.a is missing: `host/build capi` makes it");
 
 #[link(name = "capi", kind = "static")]
 extern "C" {

@@ -16,7 +16,7 @@ use second::{Droplet, Shelved};
 use std::collections::HashMap;
 
 #[cfg(capi_missing)]
-compile_error!("target/staticlib/libcapi.a is missing: `rt staticlib capi` makes it");
+compile_error!("target/staticlib/libcapi.a is missing: `host/build capi` makes it");
 
 #[link(name = "capi", kind = "static")]
 extern "C" {

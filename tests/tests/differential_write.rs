@@ -17,7 +17,7 @@ use second::{schedule_step, Stop};
 use std::iter;
 
 #[cfg(capi_missing)]
-compile_error!("target/staticlib/libcapi.a is missing: `rt staticlib capi` makes it");
+compile_error!("target/staticlib/libcapi.a is missing: `host/build capi` makes it");
 
 #[link(name = "capi", kind = "static")]
 extern "C" {

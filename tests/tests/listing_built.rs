@@ -50,7 +50,7 @@ fn started(place: &Path, input: Stdio) -> Child {
     let program = Path::new(env!("CARGO_MANIFEST_DIR")).join("../target/bin/listing");
     let program = program
         .canonicalize()
-        .unwrap_or_else(|e| panic!("{}: {e}: run `rt check listing`", program.display()));
+        .unwrap_or_else(|e| panic!("{}: {e}: run `host/build listing`", program.display()));
     Command::new(program)
         .current_dir(place)
         .stdin(input)

@@ -11,7 +11,7 @@ use second::mending::{all_words_nearby, differing_bytes, Mended};
 use second::{read_check, Droplet, Handed, Refusal};
 
 #[cfg(strand_missing)]
-compile_error!("target/staticlib/libstrand.a is missing: `rt staticlib strand` makes it");
+compile_error!("target/staticlib/libstrand.a is missing: `host/build strand` makes it");
 
 #[link(name = "strand", kind = "static")]
 extern "C" {
