@@ -76,6 +76,8 @@ def renamed(text, names, fields):
 
 def main():
     for path, pairs in FIRST.items():
+        if not os.path.exists(path):
+            continue
         text = read(path)
         for old, new in pairs:
             text = re.sub(r"(?<![\w'-])" + old + r"(?![\w'-])", new, text)
