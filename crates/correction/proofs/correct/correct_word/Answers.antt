@@ -3,15 +3,17 @@ use mathlib.Core.Path.{◌≡◌, refl, sym, ◌∙◌}
 use mathlib.Core.Bool.{Bool, true, false, ◌||◌}
 use mathlib.Core.List.{List}
 use mathlib.Core.Logic.{⊎_elim}
-use Prim.Native.Nat.{ℕ}
+use Prim.Native.Nat.{ℕ, ◌≤◌}
 use native.Mathlib.Omega.{arith}
+use borrow.Author.Rules.{rules}
 use borrow.Author.Tests.{eqb-false}
 use lib.Dec.{eqb}
+use lib.ListN.{length}
 use Rattle.field.specs.Bytes.{IsByte}
-use Rattle.field.specs.CheckBytes.{CheckCount}
+use Rattle.field.specs.CheckBytes.{CheckCount, syndromes}
 use Rattle.field.proofs.ByteLists.{all_from}
 use Rattle.correction.specs.declared.correct.Correction.{Correction}
-use Rattle.correction.specs.Correction.{Corrects}
+use Rattle.correction.specs.Correction.{all_zero, Corrects}
 use Rattle.correction.specs.Locators.{square, single_error, Damaged}
 use Rattle.correction.proofs.CorrectionCases.{clean-word}
 use Rattle.correction.proofs.correct.correct_word.Goals as goal
@@ -31,55 +33,34 @@ module _ (R : ℕ) (s : List ℕ) (count : CheckCount R) (flag : Bool) (asked : 
   curved : square s ≡ 0 → ⊥
   curved = eqb-false (square s) 0 answers.1
 
+-- the syndromes with what the code found of them
+damaged : (R : ℕ) (word s : List ℕ) → CheckCount R → length word ≤ 255 → s ≡ syndromes R word → all_zero s ≡ false → Damaged R word s
+damaged R word s count size sums nonzero = record { check_count = count; size = size; sums = sums; nonzero = nonzero }
+
+-- past the tests R is 4, and what is known of R is known of 4
 as-four : (R : ℕ) (word s : List ℕ) → R ≡ 4 → Damaged R word s → Damaged 4 word s
 as-four R word s e d = rw e at d
 
 of_four : (R : ℕ) (read : List ℕ) (r : Correction) (word : List ℕ) → R ≡ 4 → Corrects 4 read r word → Corrects R read r word
 of_four R read r word e h = rw e h
 
--- the syndromes with what the code found of them
-damaged : (c : goal.Else-all_zero) → (let start = c.before.before.before.before.before in Damaged start.args.r start.args.word.now c.before.before.syndromes_of-sums.result)
-damaged c =
-    let zero = c.before in
-    let sums = zero.before in
-    let start = sums.before.before.before in
-    record {
-      check_count = start.requires.0;
-      size = start.requires.1;
-      sums = sums.syndromes_of-sums.ensures;
-      nonzero = sym zero.all_zero.ensures ∙ c.if-all_zero.false;
-    }
-
 pub returns-then-all_zero : goal.returns-then-all_zero
 returns-then-all_zero c =
-    let zero = c.before in
-    let sums = zero.before in
-    let known = sums.before.before in
-    let start = known.before in
-    let word = start.args.word.now in
-    clean-word start.args.r word _ start.requires.0 start.requires.1 (all_from IsByte word 0 (λ i h. omega (arith, known.slice_known-1.given i)))
-    sums.syndromes_of-sums.ensures (sym zero.all_zero.ensures ∙ c.if-all_zero.true)
+    let read = c.args.word.now in
+    clean-word c.args.r read _ c.requires.0 c.requires.1 (all_from IsByte read 0 (λ i h. search rules))
+    c.syndromes_of-sums.ensures (sym c.all_zero.ensures ∙ c.if-all_zero.true)
 
 pub correct_one-requires : goal.correct_one-requires
 correct_one-requires c =
-    let asked = c.before.before in (damaged asked.before, sym asked.single_error.ensures ∙ c.before.if-single_error.true)
-
--- R is 4 past the test
-is-four : (c : goal.Else-single_error) → c.before.before.before.before.before.before.before.args.r ≡ 4
-is-four c =
-    let past = c.before.before in
-    let sums = past.before.before in
-    four _ sums.syndromes_of-sums.result (damaged past).check_count _ c.before.single_error.ensures c.if-single_error.false
+    let d = damaged _ _ _ c.requires.0 c.requires.1 c.syndromes_of-sums.ensures (sym c.all_zero.ensures ∙ c.if-all_zero.false) in
+    (d, sym c.single_error.ensures ∙ c.if-single_error.true)
 
 pub correct_two-requires : goal.correct_two-requires
 correct_two-requires c =
-    let past = c.before in
-    let sums = past.before.before.before.before in
-    let d = damaged past.before.before in (
-      as-four _ _ _ (is-four past) d,
-      curved _ sums.syndromes_of-sums.result d.check_count _ past.before.single_error.ensures past.if-single_error.false,
-    )
+    let s = c.syndromes_of-sums.result in
+    let d = damaged _ _ s c.requires.0 c.requires.1 c.syndromes_of-sums.ensures (sym c.all_zero.ensures ∙ c.if-all_zero.false) in
+    let is-four = four _ s c.requires.0 _ c.single_error.ensures c.if-single_error.false in
+    (as-four _ _ _ is-four d, curved _ s c.requires.0 _ c.single_error.ensures c.if-single_error.false)
 
 pub returns : goal.returns
-returns c =
-    let call = c.before.before in of_four _ _ _ _ (is-four call.before.before) call.correct_two.ensures
+returns c = of_four _ _ _ _ (four _ c.syndromes_of-sums.result c.requires.0 _ c.single_error.ensures c.if-single_error.false) c.correct_two.ensures

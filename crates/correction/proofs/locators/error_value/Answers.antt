@@ -11,9 +11,6 @@ returns-then-c-eq0 c = let e = c.if-c-eq0.true in simp (power_zero, e)
 
 pub returns : goal.returns
 returns c =
-    let inverse = c in
-    let sums = inverse in
-    let start = sums in
-    value-right start.args.p start.args.q start.args.c _ inverse.inverse_of.result _ start.requires.0 start.requires.1 (search rules)
-    sums.if-c-eq0.false (ap₂ bit_xor sums.times_power.ensures sums.times_power-2.ensures) inverse.inverse_of.ensures
+    value-right c.args.p c.args.q c.args.c _ c.inverse_of.result _ c.requires.0 c.requires.1 (search rules)
+    c.if-c-eq0.false (ap₂ bit_xor c.times_power.ensures c.times_power-2.ensures) c.inverse_of.ensures
     c.product_of.ensures

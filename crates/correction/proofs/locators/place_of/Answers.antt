@@ -1,6 +1,5 @@
--- What the search leaves. Assumes nothing.
+-- Each turn of `place_of` rules out one place more, and the test that passes finds one that fits. Assumes nothing.
 use mathlib.Core.Path.{refl}
-use Prim.Native.Nat.{◌-◌}
 use native.Mathlib.Omega.{arith}
 use borrow.Author.Count.{below_more}
 use borrow.Author.Rules.{rules}
@@ -15,22 +14,21 @@ loop-p-init c = (search rules, record { zeroth = refl; first = refl; second = re
 pub returns-then-follows : goal.returns-then-follows
 returns-then-follows c =
     let l = c.loop-p in
-    let a = c in
+    let a = c.args in
     record {
       most = omega arith;
       before = l.invariant.2;
-      here = λ h. hit a.args.m l.p a.args.s a.requires.1 l.y0 l.y1 l.y2 l.invariant.1 _ c.follows.ensures c.if-follows.true;
+      here = λ h. hit a.m l.p a.s c.requires.1 l.y0 l.y1 l.y2 l.invariant.1 _ c.follows.ensures c.if-follows.true;
     }
 
 pub loop-p-preserved : goal.loop-p-preserved
 loop-p-preserved c =
-    let t = c in
-    let l = t.loop-p in
-    let a = t in (
+    let l = c.loop-p in
+    let a = c.args in (
       search rules,
-      scaled-turn l.p a.args.s l.y0 l.y1 l.y2 _ _ _ l.invariant.1 c.times_root-y0.ensures c.times_root-y1.ensures c.times_root-y2.ensures,
+      scaled-turn l.p a.s l.y0 l.y1 l.y2 _ _ _ l.invariant.1 c.times_root-y0.ensures c.times_root-y1.ensures c.times_root-y2.ensures,
       below_more _ _ l.invariant.2
-          (miss a.args.m l.p a.args.s a.requires.1 l.y0 l.y1 l.y2 l.invariant.1 _ t.follows.ensures a.requires.0 c.if-follows.false),
+          (miss a.m l.p a.s c.requires.1 l.y0 l.y1 l.y2 l.invariant.1 _ c.follows.ensures c.requires.0 c.if-follows.false),
     )
 
 pub returns : goal.returns

@@ -1,4 +1,4 @@
--- What the search leaves. Assumes nothing.
+-- Each turn of `times_power` doubles once. Assumes nothing.
 use mathlib.Core.Path.{◌≡◌, refl, ap, ◌∙◌}
 use Prim.Native.Nat.{ℕ, suc, ◌-◌}
 use native.Mathlib.Omega.{arith}

@@ -1,6 +1,5 @@
 -- `times_power` meets its contract: as many doublings as are left make the power of what stands. Assumes nothing.
 use mathlib.Core.Path.{◌≡◌}
-use Prim.Native.Nat.{◌-◌}
 use Rattle.field.specs.CheckBytes.{times_power}
 use Rattle.correction.proofs.locators.times_power.Given as goal
 

@@ -1,14 +1,15 @@
--- What the search leaves. Assumes nothing.
+-- Each turn of `two_places` rules out one place more: by the locator, or by the search below it. Assumes nothing.
 use mathlib.Core.Path.{refl, sym, ◌∙◌}
-use mathlib.Core.Logic.{⊎_elim}
-use Prim.Native.Nat.{◌-◌}
+use Prim.Native.Nat.{ℕ, ◌<◌}
 use native.Mathlib.Omega.{arith}
 use borrow.Author.Count.{below_more}
 use borrow.Author.Rules.{rules}
 use Rattle.field.specs.CheckBytes.{times_power}
+use Rattle.correction.specs.Locators.{at, Fits, without}
 use Rattle.correction.proofs.Distances.{byte_at}
 use Rattle.correction.proofs.PlaceTests.{scaled-turn, locator-turn, locator-miss, two-hit, two-miss}
 use Rattle.correction.proofs.locators.two_places.Goals as goal
+use Rattle.correction.proofs.locators.two_places.Goals.{then-square-linear+else-q-p, else-square-linear}
 
 pub loop-p-init : goal.loop-p-init
 unfolding times_power
@@ -23,31 +24,27 @@ loop-p-init c =
 
 pub returns-then-q-p : goal.returns-then-q-p
 returns-then-q-p c =
-    let i = c in
-    let l = i.loop-p in
-    let s = i.args.s in
+    let l = c.loop-p in
     record {
       most = omega arith;
       before = l.invariant.4;
-      here = λ h. two-hit l.p s l.y0 l.y1 l.y2 l.invariant.3 _ c.place_of-q.ensures c.if-q-p.true;
+      here = λ h. two-hit l.p c.args.s l.y0 l.y1 l.y2 l.invariant.3 _ c.place_of-q.ensures c.if-q-p.true;
     }
 
 pub loop-p-preserved : goal.loop-p-preserved
 loop-p-preserved c =
-    let j = c in
-    let l = j.loop-p in
-    let a = j in
-    let s = a.args.s in (
+    let l = c.loop-p in
+    let s = c.args.s in
+    let none : (j : ℕ) → j < l.p → Fits 3 (without l.p (at s)) j → ⊥ = elim c.if-square-linear.branch [
+      | then-square-linear+else-q-p w ↦ two-miss l.p s l.y0 l.y1 l.y2 l.invariant.3 _ w.place_of-q.ensures w.if-q-p.false
+      | else-square-linear w ↦ λ j h.
+          locator-miss l.p s l.square l.linear (λ i. byte_at s i c.requires) l.invariant.2 (λ e. w.if-square-linear.false (e ∙ sym l.invariant.1)) j
+    ] in (
       search rules,
       l.invariant.1,
-      locator-turn l.p s l.square l.linear _ _ _ l.invariant.2
-          c.times_root.ensures c.times_root-square.ensures
-          c.times_root-linear.ensures,
-      scaled-turn l.p s l.y0 l.y1 l.y2 _ _ _ l.invariant.3
-          c.times_root-y0.ensures c.times_root-y1.ensures c.times_root-y2.ensures,
-      below_more _ _ l.invariant.4 (⊎_elim
-          (λ w. two-miss l.p s l.y0 l.y1 l.y2 l.invariant.3 _ w.1.ensures (omega arith))
-          (λ w. λ k h. locator-miss l.p s l.square l.linear (λ i. byte_at s i a.requires) l.invariant.2 (λ e. w.left (e ∙ sym l.invariant.1)) k) j.if-square-linear.branch),
+      locator-turn l.p s l.square l.linear _ _ _ l.invariant.2 c.times_root.ensures c.times_root-square.ensures c.times_root-linear.ensures,
+      scaled-turn l.p s l.y0 l.y1 l.y2 _ _ _ l.invariant.3 c.times_root-y0.ensures c.times_root-y1.ensures c.times_root-y2.ensures,
+      below_more _ _ l.invariant.4 none,
     )
 
 pub returns : goal.returns

@@ -8,7 +8,7 @@ use Rattle.correction.proofs.locators.two_places.Given as goal
 
 abbrev pub invariant-loop-p : goal.invariant-loop-p
 invariant-loop-p l =
-    (l.p ≤ l.n) × (l.initial.linear ≡ constant l.s) × LocatorAt l.p l.s l.square l.linear × Scaled l.p l.s l.y0 l.y1 l.y2
+    (l.p ≤ l.n) × (l.constant ≡ constant l.s) × LocatorAt l.p l.s l.square l.linear × Scaled l.p l.s l.y0 l.y1 l.y2
     × ((k : ℕ) → k < l.p → (j : ℕ) → j < k → Fits 3 (without k (at l.s)) j → ⊥)
 
 abbrev pub decreases-loop-p : goal.decreases-loop-p

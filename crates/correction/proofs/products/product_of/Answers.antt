@@ -1,13 +1,15 @@
--- What the search leaves. Assumes nothing.
-use mathlib.Core.Path.{refl, ◌∙◌}
-use mathlib.Core.Logic.{⊎_elim}
-use Prim.Native.Nat.{◌-◌}
+-- Each turn of `product_of` takes the lowest bit into the sum, if it is a one, and doubles the other factor. Assumes nothing.
+use mathlib.Core.Path.{◌≡◌, refl, ◌∙◌}
+use Prim.Native.Nat.{◌-◌, ◌%◌}
 use native.Mathlib.Omega.{arith}
 use borrow.Author.Rules.{rules}
+use lib.Bits.{bit_xor}
 use Rattle.field.specs.CheckBytes.{double}
+use Rattle.field.specs.Products.{bit_times}
 use Rattle.field.proofs.Products.{bit-taken, bit-passed, loop-turn, loop_ended}
 use Rattle.field.proofs.FieldProducts.{byte_step}
 use Rattle.correction.proofs.products.product_of.Goals as goal
+use Rattle.correction.proofs.products.product_of.Goals.{then-bits-eq1, else-bits-eq1}
 
 pub loop-left-init : goal.loop-left-init
 loop-left-init c = (omega arith, refl)
@@ -15,9 +17,10 @@ loop-left-init c = (omega arith, refl)
 pub loop-left-preserved : goal.loop-left-preserved
 loop-left-preserved c =
     let l = c.loop-left in
-    let sum = ⊎_elim
-    (λ w. w.1 ∙ bit-taken l.sum l.bits l.stepped w.0.taken)
-    (λ w. w.1 ∙ bit-passed l.sum l.bits l.stepped (omega arith)) c.if-bits-eq1.branch in
+    let sum : c.if-bits-eq1.sum ≡ bit_xor l.sum (bit_times (l.bits % 2) l.stepped) = elim c.if-bits-eq1.branch [
+      | then-bits-eq1 w ↦ w.sum-is ∙ bit-taken l.sum l.bits l.stepped w.if-bits-eq1.true
+      | else-bits-eq1 w ↦ w.sum-is ∙ bit-passed l.sum l.bits l.stepped (omega (arith, w.if-bits-eq1.false))
+    ] in
     (search rules, loop-turn byte_step l.sum _ (l.left - 1) l.left l.bits l.stepped _ _ (omega arith) sum c.times_root-stepped.ensures l.invariant.1)
 
 pub returns : goal.returns

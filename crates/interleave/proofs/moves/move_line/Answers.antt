@@ -7,64 +7,37 @@ use Rattle.interleave.proofs.OneLine.{longer-start, longer-part, shorter-part, l
 use Rattle.interleave.proofs.moves.move_line.Goals as goal
 
 pub overflow_mul-i : goal.overflow_mul-i
-overflow_mul-i c = let s = lines_start c.requires.0 in omega arith
+overflow_mul-i c = omega (arith, lines_start c.requires.0)
 
-pub overflow-add-move-strided : goal.overflow-add-move-strided
-overflow-add-move-strided c =
-    let start = c in
-    let d = div-le_self start.args.f start.args.width in
-    let short = start.requires.0.short in
-    omega arith
+pub overflow_add-whole : goal.overflow_add-whole
+overflow_add-whole c = omega (arith, div-le_self c.args.f c.args.width, c.requires.0.short)
 
 pub move_strided-requires : goal.move_strided-requires
-move_strided-requires c =
-    let chosen = c in
-    let start = chosen in
-    piece-fits (longer-part start.requires.0 chosen.smaller-longer.ensures) _ _ start.requires.1 start.requires.2
+move_strided-requires c = piece-fits (longer-part c.requires.0 c.smaller-longer.ensures) _ _ c.requires.1 c.requires.2
 
 pub overflow_mul-at : goal.overflow_mul-at
-overflow_mul-at c =
-    let chosen = c in
-    let s = longer-start chosen.requires.0 chosen.smaller-longer.ensures in
-    omega arith
+overflow_mul-at c = omega (arith, longer-start c.requires.0 c.smaller-longer.ensures)
 
 pub overflow_add-at : goal.overflow_add-at
-overflow_add-at c =
-    let chosen = c in
-    let s = longer-start chosen.requires.0 chosen.smaller-longer.ensures in
-    omega arith
+overflow_add-at c = omega (arith, longer-start c.requires.0 c.smaller-longer.ensures)
 
 pub overflow_add-at-2 : goal.overflow_add-at-2
 overflow_add-at-2 c =
-    let chosen = c in
-    let start = chosen in
-    let s = longer-start start.requires.0 chosen.smaller-longer.ensures in
-    let l = start.requires.0.whole in
-    let d = div-le_self start.args.f start.args.width in
-    omega arith
+    omega (
+      arith,
+      longer-start c.requires.0 c.smaller-longer.ensures,
+      c.requires.0.whole,
+      div-le_self c.args.f c.args.width,
+    )
 
-pub overflow-add-move-strided-2 : goal.overflow-add-move-strided-2
-overflow-add-move-strided-2 c =
-    let chosen = c in
-    let l = chosen.requires.0 in
-    let s = lines_start l in
-    let e = chosen.smaller-longer.ensures in
-    let most = l.most in
-    let small = l.small in
-    omega arith
+pub overflow_add-i : goal.overflow_add-i
+overflow_add-i c =
+    let l = c.requires.0 in omega (arith, lines_start l, c.smaller-longer.ensures, l.most, l.small)
 
 pub move_strided-requires-2 : goal.move_strided-requires-2
 move_strided-requires-2 c =
-    let moved = c in
-    let chosen = moved in
-    let start = chosen in
-    let long = moved.move_strided.ensures.long in
-    piece-fits (shorter-part start.requires.0 chosen.smaller-longer.ensures) _ _ start.requires.1 (omega arith)
+    let long = c.move_strided.ensures.long in
+    piece-fits (shorter-part c.requires.0 c.smaller-longer.ensures) _ _ c.requires.1 (omega arith)
 
 pub returns : goal.returns
-returns c =
-    let last = c in
-    let first = last in
-    let chosen = first in
-    let start = chosen in
-    line-moved start.requires.0 chosen.smaller-longer.ensures _ first.move_strided.ensures last.move_strided-2.ensures
+returns c = line-moved c.requires.0 c.smaller-longer.ensures _ c.move_strided.ensures c.move_strided-2.ensures
