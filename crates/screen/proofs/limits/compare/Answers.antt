@@ -15,24 +15,22 @@ pub returns-then-card-measure : goal.returns-then-card-measure
 unfolding verdict
 returns-then-card-measure c = rw (lt-leb _ _ c.if-card-measure.true)
 
-pub overflow-mul-if2 : goal.overflow-mul-if2
-overflow-mul-if2 c = record { fits = fits _ _ (search rules) (search rules) }
+pub overflow_mul-card : goal.overflow_mul-card
+overflow_mul-card c = record { fits = fits _ _ (search rules) (search rules) }
 
 pub returns-then-thousandths-card : goal.returns-then-thousandths-card
 unfolding verdict
 returns-then-thousandths-card c = rw (le-leb _ _ c.if-card-measure.false, lt-leb _ _ c.if-thousandths-card.true)
 
-pub overflow-mul-if3 : goal.overflow-mul-if3
-overflow-mul-if3 c = record { fits = fits _ _ (search rules) (search rules) }
+pub overflow_mul-card-2 : goal.overflow_mul-card-2
+overflow_mul-card-2 c = record { fits = fits _ _ (search rules) (search rules) }
 
 pub returns-then-card-n : goal.returns-then-card-n
 unfolding verdict
 returns-then-card-n c =
-    let g = c in
-    rw (le-leb _ _ g.if-card-measure.false, le-leb _ _ g.if-thousandths-card.false, lt-leb _ _ c.if-card-n.true)
+    rw (le-leb _ _ c.if-card-measure.false, le-leb _ _ c.if-thousandths-card.false, lt-leb _ _ c.if-card-n.true)
 
 pub returns : goal.returns
 unfolding verdict
 returns c =
-    let g = c in
-    rw (le-leb _ _ g.if-card-measure.false, le-leb _ _ g.if-thousandths-card.false, le-leb _ _ c.if-card-n.false)
+    rw (le-leb _ _ c.if-card-measure.false, le-leb _ _ c.if-thousandths-card.false, le-leb _ _ c.if-card-n.false)

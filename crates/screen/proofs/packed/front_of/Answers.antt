@@ -1,7 +1,7 @@
 -- What the search leaves. Assumes nothing.
 use mathlib.Core.Path.{◌≡◌, refl, sym, ◌∙◌}
 use mathlib.Core.List.{List}
-use Prim.Native.Nat.{ℕ, suc, ◌+◌, ◌-◌, ◌*◌, ◌^◌, ◌<◌, ◌≤◌, zero-le}
+use Prim.Native.Nat.{ℕ, suc, ◌+◌, ◌*◌, ◌^◌, ◌<◌, ◌≤◌, zero-le}
 use native.Mathlib.Nat.{lt_of_lt_of_le}
 use native.Mathlib.Omega.{arith}
 use lib.Dec.{lit<}
@@ -74,4 +74,7 @@ loop-j-preserved c =
 pub returns : goal.returns
 returns c =
     let l = c.loop-j in
-    (finished _ _ l.number l.mask l.j l.invariant (omega arith), roomy _ _ l.number l.mask l.j l.invariant c.requires.0)
+    record {
+      number_value = finished _ _ l.number l.mask l.j l.invariant (omega arith);
+      number_bound = roomy _ _ l.number l.mask l.j l.invariant c.requires.0;
+    }

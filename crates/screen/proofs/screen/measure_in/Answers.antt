@@ -39,7 +39,5 @@ longest_run-longest-requires c =
 
 pub returns : goal.returns
 returns c =
-    let s = c in
-    let known = c.shared_slice_known-1 in
-    measured s.args.word.now _ _ s.requires.1 c.put_matches-gc.ensures
-    c.longest_run-longest.result (λ i. omega (arith, known.given i)) s.requires.0 c.longest_run-longest.ensures
+    measured c.args.word.now _ _ c.requires.1 c.put_matches-gc.ensures
+    c.longest_run-longest.result (λ i. omega (arith, c.type_inv.word i)) c.requires.0 c.longest_run-longest.ensures
