@@ -1,4 +1,4 @@
--- What the search leaves. Assumes nothing.
+-- `read_letters`: four letters of the read are a byte more of the word, and the first four that are not end it. Assumes nothing.
 use mathlib.Core.Path.{◌≡◌, refl, sym, ◌∙◌}
 use mathlib.Core.Bool.{Bool, true, false, ◌&&◌}
 use mathlib.Core.List.{List, [], ◌∷◌, append_assoc, append-nil}
@@ -94,9 +94,6 @@ returns-in_default c =
       value = stopped a.read.now a.word.now c.loop-i.word c.loop-i.i c.loop-i.invariant c.requires (omega arith) (sym c.read_byte.ensures ∙ c.in_default.is);
       word_after = λ (e : false ≡ true). cc;
     }
-
-pub loop-i-smaller : goal.loop-i-smaller
-loop-i-smaller c = simp length-set (omega arith)
 
 pub loop-i-preserved : goal.loop-i-preserved
 loop-i-preserved c =

@@ -1,4 +1,4 @@
--- What the search leaves. Assumes nothing.
+-- `longest_run`: each turn takes a flag from every row, so that one is left to count less. Assumes nothing.
 use mathlib.Core.Path.{◌≡◌, refl, ◌∙◌}
 use mathlib.Core.Logic.{inl, inr}
 use Prim.Native.Nat.{ℕ, ◌+◌}

@@ -1,4 +1,4 @@
--- What the search leaves. Assumes nothing.
+-- `thin`: a turn thins one number more, with the last flag of the one before it in front. Assumes nothing.
 use mathlib.Core.Path.{◌≡◌, refl, ap, ◌∙◌}
 use mathlib.Core.List.{List}
 use Prim.Native.Nat.{ℕ, ◌+◌, ◌*◌, ◌/◌, ◌%◌, ◌^◌, ◌<◌, zero-le}

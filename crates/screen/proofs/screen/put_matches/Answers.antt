@@ -1,10 +1,10 @@
--- What the search leaves. Assumes nothing.
+-- `put_matches`: a turn writes the flags that waited, and the last write puts those of the word's end. Assumes nothing.
 use mathlib.Core.Path.{◌≡◌, refl, sym, ap, ◌∙◌}
 use mathlib.Core.List.{List}
 use Prim.Native.Nat.{ℕ, suc, ◌+◌, ◌*◌, ◌/◌, ◌%◌, ◌^◌, ◌<◌, ◌≤◌, zero-le}
 use native.Mathlib.Nat.{le_refl}
 use native.Mathlib.Omega.{arith}
-use lib.ListN.{length, length-take, length-set, set, take, drop, take-append-drop, drop_of_length-le}
+use lib.ListN.{length, length-set, set, take, drop, take-append-drop, drop_of_length-le}
 use lib.Seq.{take_all, length-take-le}
 use Rattle.screen.specs.Loops.{number_after, chunks_number, low_bits, gc_in, matches, MatchesOf}
 use Rattle.screen.proofs.PackedBases.{gc-more, matches-more, gc-few, number_append}
@@ -76,12 +76,6 @@ module _ (word : List ℕ) (before : ℕ) (chunks : List ℕ) (gc last mask k : 
         counts = rw (all, number) at now.counts;
       }
 
-pub slice_bounds-front_of-end : goal.slice_bounds-front_of-end
-slice_bounds-front_of-end c = sym (length-take-le _ _ (omega arith))
-
-pub front_of-front-requires : goal.front_of-front-requires
-front_of-front-requires c = (simp length-take (omega arith), c.requires.2)
-
 pub loop-k-init : goal.loop-k-init
 loop-k-init c =
     let w = c.args.word.now in
@@ -115,11 +109,6 @@ loop-k-preserved c =
       turned _ _ l.matches l.gc l.last l.mask l.k l.invariant.1 x.result flags.result _ (omega arith) (search rules) x.ensures
           (rw c.followed.ensures at waited) (c.gc_of.ensures 32 refl),
     )
-
-pub shape_of-matches : goal.shape_of-matches
-shape_of-matches c =
-    let l = c.loop-k in
-    length-set l.matches l.k c.matches_of-2.result ∙ l.invariant.1.room ∙ sym c.requires.1
 
 pub returns : goal.returns
 returns c =
