@@ -45,11 +45,9 @@ module _ {a b c d w x y z : ℕ} (p : Reads a w) (q : Reads b x) (r : Reads c y)
 
 pub returns-then-w-x-lt32 : goal.returns-then-w-x-lt32
 returns-then-w-x-lt32 c =
-    let d = c in
     rw c.bases_byte.ensures
-    (sym (is_byte d.letter_bits-w.ensures d.letter_bits-x.ensures d.letter_bits-y.ensures d.letter_bits-z.ensures c.if-w-x-lt32.true))
+    (sym (is_byte c.letter_bits-w.ensures c.letter_bits-x.ensures c.letter_bits-y.ensures c.letter_bits-z.ensures c.if-w-x-lt32.true))
 
 pub returns : goal.returns
 returns c =
-    let d = c in
-    sym (is-nothing d.letter_bits-w.ensures d.letter_bits-x.ensures d.letter_bits-y.ensures d.letter_bits-z.ensures c.if-w-x-lt32.false)
+    sym (is-nothing c.letter_bits-w.ensures c.letter_bits-x.ensures c.letter_bits-y.ensures c.letter_bits-z.ensures c.if-w-x-lt32.false)

@@ -1,9 +1,9 @@
--- What the search leaves. Assumes nothing.
+-- `read_letters`: four letters of the read are a byte more of the word, and the first four that are not end it. Assumes nothing.
 use mathlib.Core.Path.{◌≡◌, refl, sym, ◌∙◌}
 use mathlib.Core.Bool.{Bool, true, false, ◌&&◌}
 use mathlib.Core.List.{List, [], ◌∷◌, append_assoc, append-nil}
 use mathlib.Core.Logic.{inl, inr}
-use Prim.Native.Nat.{ℕ, suc, ◌+◌, ◌-◌, ◌*◌, ◌<◌, ◌≤◌}
+use Prim.Native.Nat.{ℕ, suc, ◌+◌, ◌*◌, ◌<◌, ◌≤◌}
 use native.Mathlib.Numerals.{add-one, add-two, add-three, add-four}
 use native.Mathlib.Omega.{arith}
 use lib.ListN.{length, get_or, drop, set, length-set, drop_of_length-le}
@@ -89,30 +89,22 @@ module _ (read word₀ word : List ℕ) (i : ℕ) (now : Stands read word₀ wor
 
 pub returns-in_default : goal.returns-in_default
 returns-in_default c =
-    let r = c in
-    let l = r in
-    let a = l.args in (
-      stopped a.read.now a.word.now l.loop-i.word l.loop-i.i l.loop-i.invariant l.requires (omega arith)
-          (sym r.read_byte.ensures ∙ c.enum_told-1.given.1),
-      λ e. cc,
-    )
-
-pub loop-i-smaller : goal.loop-i-smaller
-loop-i-smaller c = simp length-set (omega arith)
+    let a = c.args in
+    record {
+      value = stopped a.read.now a.word.now c.loop-i.word c.loop-i.i c.loop-i.invariant c.requires (omega arith) (sym c.read_byte.ensures ∙ c.in_default.is);
+      word_after = λ (e : false ≡ true). cc;
+    }
 
 pub loop-i-preserved : goal.loop-i-preserved
 loop-i-preserved c =
-    let r = c in
-    let l = r in
-    let a = l.args in
-    turned a.read.now a.word.now l.loop-i.word l.loop-i.i l.loop-i.invariant l.requires _ (omega arith)
-    (sym r.read_byte.ensures ∙ c.b-1.given.1)
+    let a = c.args in
+    turned a.read.now a.word.now c.loop-i.word c.loop-i.i c.loop-i.invariant c.requires _ (omega arith)
+    (sym c.read_byte.ensures ∙ c.in-Byte.is)
 
 pub returns : goal.returns
 returns c =
-    let l = c in
-    let s = l in
-    let a = s.args in (
-      all-letters a.read.now a.word.now l.loop-i.word l.loop-i.i l.loop-i.invariant s.requires (omega arith),
-      λ e. all-spelled a.read.now a.word.now l.loop-i.word l.loop-i.i l.loop-i.invariant s.requires (omega arith),
-    )
+    let a = c.args in
+    record {
+      value = all-letters a.read.now a.word.now c.loop-i.word c.loop-i.i c.loop-i.invariant c.requires (omega arith);
+      word_after = λ e. all-spelled a.read.now a.word.now c.loop-i.word c.loop-i.i c.loop-i.invariant c.requires (omega arith);
+    }

@@ -2,7 +2,7 @@
 -- that the rest spells, is the word of the read. Assumes nothing.
 use mathlib.Core.Path.{◌≡◌}
 use mathlib.Core.List.{List, ◌++◌}
-use Prim.Native.Nat.{ℕ, ◌+◌, ◌-◌, ◌*◌, ◌≤◌}
+use Prim.Native.Nat.{ℕ, ◌-◌, ◌*◌, ◌≤◌}
 use lib.ListN.{length, take, drop}
 use Rattle.screen.specs.Letters.{all_letters, letters_word}
 use Rattle.screen.proofs.letters.read_letters.Given as goal

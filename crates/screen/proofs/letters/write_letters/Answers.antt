@@ -1,7 +1,7 @@
--- What the search leaves. Assumes nothing.
+-- `write_letters`: a turn writes the letters of one byte, and behind the last turn nothing is left. Assumes nothing.
 use mathlib.Core.Path.{◌≡◌}
 use mathlib.Core.List.{List, [], ◌∷◌, ◌++◌, append_assoc, append-nil}
-use Prim.Native.Nat.{ℕ, ◌+◌, ◌-◌, ◌*◌, ◌<◌, ◌≤◌}
+use Prim.Native.Nat.{ℕ, ◌+◌, ◌*◌, ◌<◌, ◌≤◌}
 use native.Mathlib.Numerals.{add-one, add-two, add-three}
 use native.Mathlib.Omega.{arith}
 use lib.ListN.{length, get_or, take, drop, set, length-append, length-take, length-set, drop_of_length-le}
@@ -32,15 +32,6 @@ finished : (word out : List ℕ) (i : ℕ) → length word ≤ i → length out 
     → take (4 * i) out ++ word_letters (drop i word) ≡ word_letters word → out ≡ word_letters word
 unfolding word_letters
 finished word out i h n e = rw (drop_of_length-le word h, take_all (4 * i) out (omega arith), append-nil) at e
-
-pub bounds-out-at-in-loop-i : goal.bounds-out-at-in-loop-i
-bounds-out-at-in-loop-i c = simp length-set (omega arith)
-
-pub bounds-out-at-in-loop-i-2 : goal.bounds-out-at-in-loop-i-2
-bounds-out-at-in-loop-i-2 c = simp length-set (omega arith)
-
-pub bounds-out-at-in-loop-i-3 : goal.bounds-out-at-in-loop-i-3
-bounds-out-at-in-loop-i-3 c = simp length-set (omega arith)
 
 pub loop-i-preserved : goal.loop-i-preserved
 loop-i-preserved c =

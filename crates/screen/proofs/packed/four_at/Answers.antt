@@ -23,6 +23,4 @@ four word i r h e n =
     ∙ ap (λ (m : ℕ). number_after m (drop (i + 4) word)) all
 
 pub returns : goal.returns
-returns c =
-    let s = c in
-    four s.args.word.now s.args.i c.join.result s.requires c.join.ensures
+returns c = four c.args.word.now c.args.i c.join.result c.requires c.join.ensures

@@ -1,7 +1,7 @@
--- What the search leaves. Assumes nothing.
+-- `front_of`: a byte more takes number and mask eight bits further, and fewer than eight bytes leave room. Assumes nothing.
 use mathlib.Core.Path.{◌≡◌, refl, sym, ◌∙◌}
 use mathlib.Core.List.{List}
-use Prim.Native.Nat.{ℕ, suc, ◌+◌, ◌-◌, ◌*◌, ◌^◌, ◌<◌, ◌≤◌, zero-le}
+use Prim.Native.Nat.{ℕ, suc, ◌+◌, ◌*◌, ◌^◌, ◌<◌, ◌≤◌, zero-le}
 use native.Mathlib.Nat.{lt_of_lt_of_le}
 use native.Mathlib.Omega.{arith}
 use lib.Dec.{lit<}
@@ -52,20 +52,6 @@ loop-j-init c = record { at_most = zero-le; fits = omega (arith, c.requires.1); 
 pub overflow_mul-number : goal.overflow_mul-number
 overflow_mul-number c = let l = c.loop-j in omega (arith, narrow 55 _ l.number l.invariant.fits (omega arith))
 
-pub overflow_cast-number : goal.overflow_cast-number
-overflow_cast-number c = omega (arith, c.type_inv.word c.loop-j.j)
-
-pub overflow_add-number : goal.overflow_add-number
-overflow_add-number c =
-    let l = c.loop-j in
-    omega (arith, narrow 55 _ l.number l.invariant.fits (omega arith), c.type_inv.word l.j)
-
-pub overflow_mul-mask : goal.overflow_mul-mask
-overflow_mul-mask c = let l = c.loop-j in omega (arith, narrow 55 _ l.mask l.invariant.mask_fits (omega arith))
-
-pub overflow_add-mask : goal.overflow_add-mask
-overflow_add-mask c = let l = c.loop-j in omega (arith, narrow 55 _ l.mask l.invariant.mask_fits (omega arith))
-
 pub loop-j-preserved : goal.loop-j-preserved
 loop-j-preserved c =
     let l = c.loop-j in
@@ -74,4 +60,7 @@ loop-j-preserved c =
 pub returns : goal.returns
 returns c =
     let l = c.loop-j in
-    (finished _ _ l.number l.mask l.j l.invariant (omega arith), roomy _ _ l.number l.mask l.j l.invariant c.requires.0)
+    record {
+      number_value = finished _ _ l.number l.mask l.j l.invariant (omega arith);
+      number_bound = roomy _ _ l.number l.mask l.j l.invariant c.requires.0;
+    }

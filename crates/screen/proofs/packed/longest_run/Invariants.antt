@@ -9,7 +9,7 @@ use Rattle.screen.specs.Loops.{chunks_number, Flags, longest_row}
 use Rattle.screen.proofs.packed.longest_run.Given as goal
 
 -- what is left to count of k flags' longest run: nothing if the last turn found no flag, and else one more than the longest row
-pub left : ℕ → ℕ → ℕ → ℕ
+unfoldable pub left : ℕ → ℕ → ℕ → ℕ
 left k any n = cond (eqb any 0) 0 (longest_row k n + 1)
 
 abbrev pub invariant-loop-any : goal.invariant-loop-any

@@ -12,4 +12,4 @@ in-front before bases h =
     rw e (or_shifted (before % 4) 62 (bases / 4) (omega arith))
 
 pub returns : goal.returns
-returns c = in-front c.args c.args.bases (search rules)
+returns c = in-front c.args.before c.args.bases (search rules)

@@ -1,9 +1,10 @@
--- What the search leaves. Assumes nothing.
+-- `thin`: a turn thins one number more, with the last flag of the one before it in front. Assumes nothing.
 use mathlib.Core.Path.{◌≡◌, refl, ap, ◌∙◌}
 use mathlib.Core.List.{List}
-use Prim.Native.Nat.{ℕ, ◌+◌, ◌-◌, ◌*◌, ◌/◌, ◌%◌, ◌^◌, ◌<◌, zero-le}
+use Prim.Native.Nat.{ℕ, ◌+◌, ◌*◌, ◌/◌, ◌%◌, ◌^◌, ◌<◌, zero-le}
 use native.Mathlib.Omega.{arith}
 use lib.Bits.{bit_and, bit_or, and_le_l, and_le_r, or_add_and}
+use borrow.Author.Rules.{rules}
 use lib.ListN.{length, get_or, set, length-set}
 use lib.Seq.{get_or-set_other, take_all}
 use Rattle.screen.specs.Loops.{chunks_number, thinned}
@@ -59,8 +60,8 @@ pub loop-i-preserved : goal.loop-i-preserved
 loop-i-preserved c =
     let l = c.loop-i in
     let xs = c.args.matches.now in
-    next xs l.matches l.any l l.i l.invariant (omega (arith, l.invariant.long)) _
-    (omega (arith, c.type_inv.matches l.i))
+    next xs l.matches l.any l.before l.i l.invariant (omega (arith, l.invariant.long)) _
+    (search rules)
     (ap (bit_and (get_or l.matches l.i 0)) c.moved.ensures)
 
 pub returns : goal.returns
@@ -69,4 +70,7 @@ returns c =
     let xs = c.args.matches.now in
     let all = take_all l.i xs (omega (arith, l.invariant.long)) in
     let all-now = take_all l.i l.matches (omega arith) in
-    (rw (all, all-now) at l.invariant.thins, (rw all at l.invariant.none, rw all at l.invariant.no-any))
+    record {
+      matches_after = rw (all, all-now) at l.invariant.thins;
+      matches_value = (rw all at l.invariant.none, rw all at l.invariant.no-any);
+    }

@@ -3,7 +3,6 @@ use mathlib.Core.Path.{◌≡◌, ◌∙◌}
 use mathlib.Core.List.{List}
 use Prim.Native.Nat.{ℕ, ◌+◌, ◌-◌, ◌*◌, ◌<◌, ◌≤◌}
 use native.Mathlib.Omega.{arith}
-use lib.Dec.{lit<}
 use lib.ListN.{length, get_or}
 use Rattle.screen.specs.Screen.{measure_of}
 use Rattle.screen.specs.Loops.{chunks_number, Flags, longest_row, MatchesOf}
@@ -30,16 +29,11 @@ module _ (word : List ℕ) (gc : ℕ) (chunks : List ℕ) (short : length word �
       let row = rw enough at (more_rows (4 * length word + 1) (319 - 4 * length word) (chunks_number chunks) flags) in
       measure-is word (e ∙ rw (row, put.flags) (omega (arith, word-run word bytes some))) (put.counts ∙ word-gc 1 word bytes)
 
-pub put_matches-gc-requires : goal.put_matches-gc-requires
-put_matches-gc-requires c = let p = c.requires in (p.1, p.2, lit< tt, lit< tt)
-
 pub longest_run-longest-requires : goal.longest_run-longest-requires
 longest_run-longest-requires c =
     all-flags _ _ _ c.requires.1 c.put_matches-gc.ensures
 
 pub returns : goal.returns
 returns c =
-    let s = c in
-    let known = c.shared_slice_known-1 in
-    measured s.args.word.now _ _ s.requires.1 c.put_matches-gc.ensures
-    c.longest_run-longest.result (λ i. omega (arith, known.given i)) s.requires.0 c.longest_run-longest.ensures
+    measured c.args.word.now _ _ c.requires.1 c.put_matches-gc.ensures
+    c.longest_run-longest.result (λ i. omega (arith, c.type_inv.word i)) c.requires.0 c.longest_run-longest.ensures

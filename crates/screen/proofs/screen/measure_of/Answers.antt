@@ -1,10 +1,9 @@
 -- `measure_of` meets its contract: ten numbers have room for the matches of 72 bytes. Assumes nothing.
-use mathlib.Core.Path.{◌≡◌, refl, sym}
+use mathlib.Core.Path.{◌≡◌, refl}
 use mathlib.Core.List.{List, [], ◌∷◌}
 use Prim.Native.Nat.{ℕ}
 use native.Mathlib.Omega.{arith}
 use lib.ListN.{length}
-use lib.Seq.{length-take-le}
 use Rattle.screen.specs.Letters.{letter_bits, text_letters, letters_bases, word_bases}
 use Rattle.screen.specs.Sites.{site_before, site_after}
 use Rattle.screen.specs.Screen.{with_base, longest_of, order_of, longest_run, gc_count, measure_of}
@@ -17,9 +16,3 @@ empty (b ∷ bs) e = absurd (let z : ⊥ = omega arith in z)
 
 pub returns-then-word-eq0 : goal.returns-then-word-eq0
 returns-then-word-eq0 c = empty _ c.if-word-eq0.true
-
-pub slice_bounds-measure_in-end : goal.slice_bounds-measure_in-end
-slice_bounds-measure_in-end c = sym (length-take-le _ _ (omega arith))
-
-pub measure_in-requires : goal.measure_in-requires
-measure_in-requires c = (omega arith, omega arith, length-take-le _ _ (omega arith))

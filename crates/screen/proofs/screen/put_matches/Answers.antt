@@ -1,10 +1,10 @@
--- What the search leaves. Assumes nothing.
+-- `put_matches`: a turn writes the flags that waited, and the last write puts those of the word's end. Assumes nothing.
 use mathlib.Core.Path.{◌≡◌, refl, sym, ap, ◌∙◌}
 use mathlib.Core.List.{List}
-use Prim.Native.Nat.{ℕ, suc, ◌+◌, ◌-◌, ◌*◌, ◌/◌, ◌%◌, ◌^◌, ◌<◌, ◌≤◌, zero-le}
+use Prim.Native.Nat.{ℕ, suc, ◌+◌, ◌*◌, ◌/◌, ◌%◌, ◌^◌, ◌<◌, ◌≤◌, zero-le}
 use native.Mathlib.Nat.{le_refl}
 use native.Mathlib.Omega.{arith}
-use lib.ListN.{length, length-take, length-set, set, take, drop, take-append-drop, drop_of_length-le}
+use lib.ListN.{length, length-set, set, take, drop, take-append-drop, drop_of_length-le}
 use lib.Seq.{take_all, length-take-le}
 use Rattle.screen.specs.Loops.{number_after, chunks_number, low_bits, gc_in, matches, MatchesOf}
 use Rattle.screen.proofs.PackedBases.{gc-more, matches-more, gc-few, number_append}
@@ -76,22 +76,15 @@ module _ (word : List ℕ) (before : ℕ) (chunks : List ℕ) (gc last mask k : 
         counts = rw (all, number) at now.counts;
       }
 
-pub slice_bounds-front_of-end : goal.slice_bounds-front_of-end
-slice_bounds-front_of-end c = sym (length-take-le _ _ (omega arith))
-
-pub front_of-front-requires : goal.front_of-front-requires
-front_of-front-requires c = (simp length-take (omega arith), c.requires.2)
-
 pub loop-k-init : goal.loop-k-init
 loop-k-init c =
-    let s = c in
-    let w = s.args.word.now in
+    let w = c.args.word.now in
     let front = c.front_of-front in
     let rest : length (take (length w % 8) w) ≡ length w % 8 = length-take-le _ w (omega arith) in
-    let mask = rw rest at front.ensures.0.1 in (
+    let mask = rw rest at front.ensures.number_value.1 in (
       refl,
-      started w s.args s.args.matches.now front.result.number front.result.mask c.gc_of-gc.result
-          s.requires.1 front.ensures.0.0 front.ensures.1.0 mask (c.gc_of-gc.ensures (4 * (length w % 8)) (omega (arith, mask))),
+      started w c.args.before c.args.matches.now front.result.number front.result.mask c.gc_of-gc.result
+          c.requires.1 front.ensures.number_value.0 front.ensures.number_bound.0 mask (c.gc_of-gc.ensures (4 * (length w % 8)) (omega (arith, mask))),
     )
 
 pub overflow_add-gc : goal.overflow_add-gc
@@ -117,20 +110,11 @@ loop-k-preserved c =
           (rw c.followed.ensures at waited) (c.gc_of.ensures 32 refl),
     )
 
-pub shape_of-matches : goal.shape_of-matches
-shape_of-matches c =
-    let at-loop = c in
-    let s = at-loop in
-    let l = at-loop.loop-k in
-    length-set l.matches l.k c.matches_of-2.result ∙ l.invariant.1.room ∙ sym s.requires.1
-
 pub returns : goal.returns
 returns c =
-    let at-loop = c in
-    let l = at-loop.loop-k in
-    let s = at-loop in
-    let after = s.args.after in
-    let next : after * 2 ^ 62 % 2 ^ 64 / 2 ^ 62 ≡ after = omega (arith, s.requires.3) in
+    let l = c.loop-k in
+    let after = c.args.after in
+    let next : after * 2 ^ 62 % 2 ^ 64 / 2 ^ 62 ≡ after = omega (arith, c.requires.3) in
     let waited = c.matches_of-2.ensures l.invariant.1.width (omega (arith, l.invariant.1.masks)) in
-    finished _ _ l.matches l.gc l.last l.mask l.k l.invariant.1 after _ (omega arith) s.requires.3
+    finished _ _ l.matches l.gc l.last l.mask l.k l.invariant.1 after _ (omega arith) c.requires.3
     (rw (c.followed-2.ensures, next) at waited)

@@ -24,7 +24,7 @@ pub record Stands (word : List ℕ) (before : ℕ) (chunks : List ℕ) (gc last 
   pub counts : gc ≡ gc_in (4 * (length word % 8 + k * 8)) number
 
 abbrev pub invariant-loop-k : goal.invariant-loop-k
-invariant-loop-k l = (l.initial.matches ≡ length l.before % 8) × Stands l.before l.after l.matches l.gc l.last l.mask l.k
+invariant-loop-k l = (l.rest ≡ length l.word % 8) × Stands l.word l.before l.matches l.gc l.last l.mask l.k
 
 abbrev pub decreases-loop-k : goal.decreases-loop-k
-decreases-loop-k l = length l.before / 8 - l.k
+decreases-loop-k l = length l.word / 8 - l.k
