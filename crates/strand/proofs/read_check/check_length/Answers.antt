@@ -1,6 +1,6 @@
 -- `check_length` meets its contract: a strand's length in bases is four times that in bytes. Assumes nothing.
 use mathlib.Core.Path.{◌≡◌, sym, ◌∙◌}
-use Prim.Native.Nat.{ℕ, ◌*◌}
+use Prim.Native.Nat.{ℕ}
 use native.Mathlib.Omega.{arith}
 use lib.Seq.{length-take-le}
 use Rattle.droplet.specs.declared.card.Card.{Card}

@@ -8,7 +8,7 @@ use lib.Seq.{length-take-le}
 use Rattle.field.specs.Bytes.{padded}
 use Rattle.field.proofs.ByteLists.{take-padded}
 use Rattle.droplet.specs.declared.card.Card.{Card}
-use Rattle.droplet.specs.PoolCard.{segment_count, weight_count, weight_sum, strand_bytes}
+use Rattle.droplet.specs.PoolCard.{segment_count, weight_sum, strand_bytes}
 use Rattle.droplet.specs.Droplet.{payload}
 use Rattle.droplet.specs.Loops.{Picked}
 use Rattle.droplet.proofs.LegalCard.{legal}

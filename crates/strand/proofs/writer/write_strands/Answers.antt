@@ -1,5 +1,5 @@
 -- `write_strands` meets its contract: one law for each of its answers. Assumes nothing.
-use mathlib.Core.Path.{◌≡◌, sym, ◌∙◌}
+use mathlib.Core.Path.{sym}
 use Rattle.droplet.proofs.CardAnswers.{passed, stopped}
 use Rattle.strand.proofs.WriterAnswers.{roomy, card-refused, own-refused, answered}
 use borrow.Author.Rules.{rules}
