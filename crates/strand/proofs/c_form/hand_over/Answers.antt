@@ -16,15 +16,11 @@ slice_bounds-put_droplet-end c = sym (length-take-le _ _ (omega arith))
 
 pub put_droplet-requires : goal.put_droplet-requires
 put_droplet-requires c =
-    let s = c in
-    let n : length (take s.args.l s.args.payload.now) ≡ s.args.l = length-take-le _ _ (omega arith) in
+    let n : length (take c.args.l c.args.payload.now) ≡ c.args.l = length-take-le _ _ (omega arith) in
     omega (arith, n, c.if-out-l.false)
 
 pub returns : goal.returns
 unfolding droplet_over
 returns c =
-    let q = c in
-    let e = q in
-    let s = e in
-    let n : length (take s.args.l s.args.payload.now) ≡ s.args.l = length-take-le _ _ (omega arith) in
-    rw (le-leb _ _ e.if-out-l.false, q.put_droplet.ensures, n)
+    let n : length (take c.args.l c.args.payload.now) ≡ c.args.l = length-take-le _ _ (omega arith) in
+    rw (le-leb _ _ c.if-out-l.false, c.put_droplet.ensures, n)

@@ -4,7 +4,4 @@ use Rattle.field.proofs.BigEndian.{to-length}
 use Rattle.strand.proofs.droplet_bytes.put_droplet.Goals as goal
 
 pub returns : goal.returns
-returns c =
-    let copied = c in
-    let four = copied.split.ensures in
-    copied.copy_both.ensures ∙ rw (four, to-length _)
+returns c = c.copy_both.ensures ∙ rw (c.split.ensures, to-length _)

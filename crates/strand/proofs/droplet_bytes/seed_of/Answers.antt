@@ -7,5 +7,4 @@ use Rattle.strand.proofs.droplet_bytes.seed_of.Goals as goal
 
 pub returns : goal.returns
 unfolding number_at
-returns c =
-    c.join.ensures ∙ sym (number-four c.args.word.now 0 (omega arith))
+returns c = c.join.ensures ∙ sym (number-four c.args.word.now 0 (omega arith))

@@ -6,7 +6,6 @@ use native.Mathlib.Omega.{arith}
 use lib.ListN.{take, drop}
 use Rattle.field.specs.Bytes.{padded}
 use Rattle.droplet.specs.declared.card.Card.{Card}
-use Rattle.screen.specs.Screen.{word_verdict}
 use Rattle.screen.proofs.Screening.{comparable, compared, not-passes, passes, fails}
 use Rattle.strand.specs.declared.read_check.ReadOutcome.TheVariants.{Droplet}
 use Rattle.strand.specs.ReadCheck.{Answers, word_seed, word_payload, strand_reading}
@@ -22,45 +21,38 @@ accepted card word payload seed k e s p =
     rw e (record { says = ap Droplet s; holds = rw n at p; counts = refl })
 
 pub seed_of-seed-requires : goal.seed_of-seed-requires
-seed_of-seed-requires c = omega (arith, (word_fits _ _ c.before.requires).0)
+seed_of-seed-requires c = omega (arith, (word_fits _ _ c.requires).0)
 
 pub returns-then-seed-eq0 : goal.returns-then-seed-eq0
 returns-then-seed-eq0 c =
-    let a = c.before.before.before.before.args in
-    rw (case-12 a.card a.word.now a.corrected (sym c.before.before.seed_of-seed.ensures ∙ c.before.if-seed-eq0.true)) c.refuse.ensures
+    let a = c.args in
+    rw (case-12 a.card a.word.now a.corrected (sym c.seed_of-seed.ensures ∙ c.if-seed-eq0.true)) c.refuse.ensures
 
 pub to_bases-n-requires : goal.to_bases-n-requires
-to_bases-n-requires c = omega (arith, (word_fits _ _ c.before.before.before.requires).1)
+to_bases-n-requires c = omega (arith, (word_fits _ _ c.requires).1)
 
 pub measure_of-requires : goal.measure_of-requires
-measure_of-requires c = (word_fits _ _ c.before.before.before.before.requires).1
+measure_of-requires c = (word_fits _ _ c.requires).1
 
 pub compare-requires : goal.compare-requires
-compare-requires c =
-    let s = c.before.before.before.before.before in
-    comparable s.args.word.now c.measure_of.ensures c.before.to_bases-n.ensures (word_fits _ _ s.requires).1
-
--- what the code compared is what question 13 asks
-screened : (c : goal.After-compare) → (let a = c.before.before.before.before.before.before.args in c.compare.result ≡ word_verdict a.card a.word.now)
-screened c = compared _ c.before.measure_of.ensures c.before.before.to_bases-n.ensures _ c.compare.ensures
+compare-requires c = comparable c.args.word.now c.measure_of.ensures c.to_bases-n.ensures (word_fits _ _ c.requires).1
 
 pub slice_bounds-pad-end : goal.slice_bounds-pad-end
-slice_bounds-pad-end c = omega (arith, (word_fits _ _ c.before.before.before.before.before.before.before.before.before.requires).0)
+slice_bounds-pad-end c = omega (arith, (word_fits _ _ c.requires).0)
 
+-- in both of the others, what the code compared is what question 13 asks
 pub returns-in-Passes : goal.returns-in-Passes
 returns-in-Passes c =
-    let told = c.before.before.before in
-    let v = told.before.before in
-    let p = v.before.before.before in
-    let a = p.before.before.before.args in
-    accepted a.card a.word.now c.pad-payload.result _ a.corrected
-    (case-droplet a.card a.word.now a.corrected (λ s. p.if-seed-eq0.false (p.before.seed_of-seed.ensures ∙ s)) (passes _ _ (screened v) told.enum_told-1.given.1))
-    (omega (arith, p.before.seed_of-seed.ensures)) c.pad-payload.ensures
+    let a = c.args in
+    let screened = compared a.word.now c.measure_of.ensures c.to_bases-n.ensures a.card c.compare.ensures in
+    accepted a.card a.word.now c.pad-payload.result c.seed_of-seed.result a.corrected
+    (case-droplet a.card a.word.now a.corrected (λ s. c.if-seed-eq0.false (c.seed_of-seed.ensures ∙ s)) (passes a.card a.word.now screened c.in-Passes.is))
+    c.seed_of-seed.ensures c.pad-payload.ensures
 
 pub returns : goal.returns
 returns c =
-    let v = c.before.before in
-    let p = v.before.before.before in
-    let a = p.before.before.before.args in
-    rw (case-13 a.card a.word.now a.corrected (λ s. p.if-seed-eq0.false (p.before.seed_of-seed.ensures ∙ s)) (fails _ _ (screened v) (not-passes v.compare.result (λ e. rw e at c.before.in_default.keys2))))
+    let a = c.args in
+    let screened = compared a.word.now c.measure_of.ensures c.to_bases-n.ensures a.card c.compare.ensures in
+    let stays = not-passes c.compare.result (λ e. absurd (c.in_default.not-Passes e)) in
+    rw (case-13 a.card a.word.now a.corrected (λ s. c.if-seed-eq0.false (c.seed_of-seed.ensures ∙ s)) (fails a.card a.word.now screened stays))
     c.refuse-2.ensures

@@ -1,60 +1,44 @@
 -- `check_length` meets its contract: a strand's length in bases is four times that in bytes. Assumes nothing.
 use mathlib.Core.Path.{◌≡◌, sym, ◌∙◌}
-use Prim.Native.Nat.{ℕ, ◌*◌, ◌≤◌}
+use Prim.Native.Nat.{ℕ}
 use native.Mathlib.Omega.{arith}
-use lib.ListN.{length}
 use lib.Seq.{length-take-le}
 use Rattle.droplet.specs.declared.card.Card.{Card}
 use Rattle.droplet.specs.declared.card.Bases.{Bases}
 use Rattle.droplet.specs.declared.card.Bytes.{Bytes}
 use Rattle.droplet.specs.PoolCard.{strand_bytes, bases_of, bytes_of}
 use Rattle.strand.proofs.ReadingCases.{strand-fits, case-9}
+use Rattle.strand.proofs.StrandWords.{strand-in-bases}
 use Rattle.strand.proofs.read_check.check_length.Goals as goal
 
-in-bases : (card : Card) (b : Bytes) (n : Bases) → b ≡ record { 0 = strand_bytes card } → n ≡ bases_of b → n.0 ≡ strand_bytes card * 4
-unfolding bases_of
-in-bases card b n e f = rw (f, e)
-
-in_bytes : (n k : ℕ) (b : Bytes) → n ≡ k * 4 → b ≡ bytes_of (record { 0 = n }) → b.0 ≡ k
-unfolding bytes_of
-in_bytes n k b e f = rw f (omega arith)
-
--- the word's length
-sized : (c : goal.After-to_bytes-size)
-    → c.to_bytes-size.result.0 ≡ strand_bytes c.before.before.before.before.before.before.before.before.args.card
-sized c =
-    let d = c.before.before.before.before in
-    let a = d.before.before.before.before.args in
-    in_bytes (length a.read.now) _ _ (c.before.if-n-strand.false ∙ in-bases a.card _ _ d.before.strand_bytes.ensures d.to_bases-strand.ensures) c.to_bytes-size.ensures
-
-within : (c : goal.After-to_bytes-size) → c.to_bytes-size.result.0 ≤ length c.before.before.before.before.before.before.before.before.args.buffer.now
-within c =
-    let s = c.before.before.before.before.before.before.before.before in
-    omega (arith, sized c, (strand-fits s.args.card s.requires.0).1, s.requires.1)
+-- the word's length, by the read's
+module _ (card : Card) (read : ℕ) {b : Bytes} {n : Bases} {size : Bytes} (strand : b ≡ record { 0 = strand_bytes card }) (bases : n ≡ bases_of b)
+    (same : read ≡ n.0) (bytes : size ≡ bytes_of (record { 0 = read })) where
+  sized : size.0 ≡ strand_bytes card
+  unfolding bytes_of
+  sized = rw bytes (omega (arith, same, strand-in-bases card strand bases))
 
 pub to_bases-strand-requires : goal.to_bases-strand-requires
-to_bases-strand-requires c = rw c.strand_bytes.ensures (omega (arith, (strand-fits _ c.before.before.before.requires.0).1))
+to_bases-strand-requires c = rw c.strand_bytes.ensures (omega (arith, (strand-fits _ c.requires.0).1))
 
 pub returns-then-n-strand : goal.returns-then-n-strand
 returns-then-n-strand c =
-    let d = c.before.before.before.before in
-    let a = d.before.before.before.before.args in
-    let n = in-bases a.card _ _ d.before.strand_bytes.ensures d.to_bases-strand.ensures in
-    rw (case-9 a.card a.read.now (λ e. c.before.if-n-strand.true (e ∙ sym n))) c.refuse.ensures
+    let n = strand-in-bases c.args.card c.strand_bytes.ensures c.to_bases-strand.ensures in
+    rw (case-9 c.args.card c.args.read.now (λ e. c.if-n-strand.true (e ∙ sym n))) c.refuse.ensures
 
 pub slice_bounds-check_letters-end : goal.slice_bounds-check_letters-end
-slice_bounds-check_letters-end c = within c
+slice_bounds-check_letters-end c =
+    let size = sized c.args.card _ c.strand_bytes.ensures c.to_bases-strand.ensures c.if-n-strand.false c.to_bytes-size.ensures in
+    omega (arith, size, (strand-fits c.args.card c.requires.0).1, c.requires.1)
 
 pub slice_bounds-check_letters-end-2 : goal.slice_bounds-check_letters-end-2
-slice_bounds-check_letters-end-2 c = sym (length-take-le _ _ (within c.before))
+slice_bounds-check_letters-end-2 c =
+    let size = sized c.args.card _ c.strand_bytes.ensures c.to_bases-strand.ensures c.if-n-strand.false c.to_bytes-size.ensures in
+    sym (length-take-le _ _ (omega (arith, size, (strand-fits c.args.card c.requires.0).1, c.requires.1)))
 
 pub check_letters-requires : goal.check_letters-requires
 check_letters-requires c =
-    let s = c.before.before.before.before.before.before.before.before.before in
-    let n = length-take-le _ s.args.buffer.now (within c.before) in
-    let d = c.before.before.before.before.before in
-    let bases = in-bases s.args.card _ _ d.before.strand_bytes.ensures d.to_bases-strand.ensures in
-    (record { card = s.requires.0; long = n ∙ sized c.before }, omega (arith, n, sized c.before, bases, c.before.before.if-n-strand.false))
-
-pub returns : goal.returns
-returns c = c.before.before.check_letters.ensures
+    let size = sized c.args.card _ c.strand_bytes.ensures c.to_bases-strand.ensures c.if-n-strand.false c.to_bytes-size.ensures in
+    let long = length-take-le c.to_bytes-size.result.0 c.args.buffer.now (omega (arith, size, (strand-fits c.args.card c.requires.0).1, c.requires.1)) in
+    let bases = strand-in-bases c.args.card c.strand_bytes.ensures c.to_bases-strand.ensures in
+    (record { card = c.requires.0; long = long ∙ size }, omega (arith, long, size, bases, c.if-n-strand.false))

@@ -49,7 +49,5 @@ slice_bounds-parity_of-end-2 c = sym (length-take-le _ _ (omega arith))
 
 pub returns : goal.returns
 returns c =
-    let r = c in
-    let s = r in
-    filled s.args.card s.args.seed s.args.payload.now _ _ _ _ _ _ s.requires.0 s.requires.1 r.put_droplet.ensures
+    filled c.args.card c.args.seed c.args.payload.now _ _ _ _ _ _ c.requires.0 c.requires.1 c.put_droplet.ensures
     c.parity_of-parity.ensures c.copy.ensures

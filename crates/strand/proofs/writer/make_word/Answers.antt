@@ -8,10 +8,10 @@ use lib.Seq.{length-take-le}
 use Rattle.field.specs.Bytes.{padded}
 use Rattle.field.proofs.ByteLists.{take-padded}
 use Rattle.droplet.specs.declared.card.Card.{Card}
-use Rattle.droplet.specs.PoolCard.{segment_count, weight_count, weight_sum, strand_bytes}
+use Rattle.droplet.specs.PoolCard.{segment_count, weight_sum, strand_bytes}
 use Rattle.droplet.specs.Droplet.{payload}
 use Rattle.droplet.specs.Loops.{Picked}
-use Rattle.droplet.proofs.LegalCard.{Legal, legal}
+use Rattle.droplet.proofs.LegalCard.{legal}
 use Rattle.droplet.proofs.Payload.{payload-length}
 use Rattle.strand.specs.ReadCheck.{strand_word}
 use Rattle.strand.specs.Writer.{seed_word}
@@ -32,43 +32,37 @@ made c ws file seed d list list' p word' positive picked e f =
       keeps = picked-rest ws (segment_count c) seed d list list' picked positive;
     }
 
-right : (c : goal.Start) → Legal c.args.card c.args.weights.now
-right c = legal c.args.card c.args.weights.now c.requires.legal
-
-few : (c : goal.After-segments_of-d) → c.segments_of-d.result ≤ weight_count c.before.before.before.before.before.before.args.weights.now
-few c = picked-few _ _ _ _ _ _ c.segments_of-d.ensures (right c.before.before.before.before.before.before).weights.sum-least
-
 pub segments_of-d-requires : goal.segments_of-d-requires
-segments_of-d-requires c =
-    let s = c.before.before.before.before.before in
-    drawable s.args.card s.args.weights.now s.args.plan s.args.list.now s.args.word.now s.requires
+segments_of-d-requires c = drawable c.args.card c.args.weights.now c.args.plan c.args.list.now c.args.word.now c.requires
 
 pub slice_bounds-payload_of-end : goal.slice_bounds-payload_of-end
-slice_bounds-payload_of-end c = omega (arith, few c.before.before.before)
+slice_bounds-payload_of-end c =
+    let right = legal c.args.card c.args.weights.now c.requires.legal in
+    omega (arith, picked-few _ _ _ _ _ _ c.segments_of-d.ensures right.weights.sum-least, c.requires.places, c.segments_of-d.auto.list)
 
 pub slice_bounds-payload_of-end-2 : goal.slice_bounds-payload_of-end-2
-slice_bounds-payload_of-end-2 c = sym (length-take-le _ _ (omega (arith, few c.before.before.before.before)))
+slice_bounds-payload_of-end-2 c =
+    let right = legal c.args.card c.args.weights.now c.requires.legal in
+    let few = picked-few _ _ _ _ _ _ c.segments_of-d.ensures right.weights.sum-least in
+    sym (length-take-le _ _ (omega (arith, few, c.requires.places, c.segments_of-d.auto.list)))
 
 pub payload_of-payload-requires : goal.payload_of-payload-requires
-payload_of-payload-requires c = (right c.before.before.before.before.before.before.before.before.before.before).sizes.l_most
+payload_of-payload-requires c = (legal c.args.card c.args.weights.now c.requires.legal).sizes.l_most
 
 pub slice_bounds-payload-end : goal.slice_bounds-payload-end
-slice_bounds-payload-end c = omega (arith, (right c.before.before.before.before.before.before.before.before.before.before.before).sizes.l_most)
+slice_bounds-payload-end c = omega (arith, (legal c.args.card c.args.weights.now c.requires.legal).sizes.l_most)
 
 pub slice_bounds-fill_word-end : goal.slice_bounds-fill_word-end
-slice_bounds-fill_word-end c = sym (length-take-le _ _ (omega (arith, (right c.before.before.before.before.before.before.before.before.before.before.before.before).sizes.l_most)))
+slice_bounds-fill_word-end c =
+    sym (length-take-le _ _ (omega (arith, (legal c.args.card c.args.weights.now c.requires.legal).sizes.l_most)))
 
 pub fill_word-requires : goal.fill_word-requires
 fill_word-requires c =
-    let s = c.before.before.before.before.before.before.before.before.before.before.before.before.before in
-    let l = (right s).sizes.l_most in
-    ((right s).sizes.check_count, length-take-le _ _ (omega arith), omega (arith, s.requires.room))
+    let sizes = (legal c.args.card c.args.weights.now c.requires.legal).sizes in
+    (sizes.check_count, length-take-le _ _ (omega (arith, sizes.l_most)), omega (arith, sizes.l_most, c.requires.room))
 
 pub returns : goal.returns
 returns c =
-    let f = c.before.before in
-    let p = f.before.before.before in
-    let g = p.before.before.before.before.before in
-    let s = g.before.before.before.before.before.before in
-    made s.args.card s.args.weights.now s.args.file.now s.args.seed _ _ _ _ _ (right s).weights.sum-least
-    (rw s.requires.segments at g.segments_of-d.ensures) p.payload_of-payload.ensures f.fill_word.ensures
+    let a = c.args in
+    made a.card a.weights.now a.file.now a.seed _ _ _ _ _ (legal a.card a.weights.now c.requires.legal).weights.sum-least
+    (rw c.requires.segments at c.segments_of-d.ensures) c.payload_of-payload.ensures c.fill_word.ensures

@@ -18,8 +18,8 @@ pub returns-then-wanted-gt1000000 : goal.returns-then-wanted-gt1000000
 unfolding own_refusal
 returns-then-wanted-gt1000000 c = rw (eq-eqb _ _ c.if-file_len-card.false, ne_eqb _ _ c.if-start-eq0.false, lt-leb _ _ c.if-wanted-gt1000000.true)
 
-pub overflow-mul-if4 : goal.overflow-mul-if4
-overflow-mul-if4 c =
+pub overflow_mul-wanted : goal.overflow_mul-wanted
+overflow_mul-wanted c =
     let w = c.args.wanted in
     let few : w ≤ 2 ^ 32 = omega arith in
     let short : c.line_bytes.result ≤ 289 = omega arith in
@@ -28,23 +28,17 @@ overflow-mul-if4 c =
 pub returns-then-out_len-wanted : goal.returns-then-out_len-wanted
 unfolding own_refusal
 returns-then-out_len-wanted c =
-    let n = c in
-    let line = rw n.line_bytes.ensures at c.if-out_len-wanted.true in
-    let three = n in
-    rw (eq-eqb _ _ three.if-file_len-card.false, ne_eqb _ _ three.if-start-eq0.false, le-leb _ _ three.if-wanted-gt1000000.false, lt-leb _ _ line)
+    let line = rw c.line_bytes.ensures at c.if-out_len-wanted.true in
+    rw (eq-eqb _ _ c.if-file_len-card.false, ne_eqb _ _ c.if-start-eq0.false, le-leb _ _ c.if-wanted-gt1000000.false, lt-leb _ _ line)
 
 pub returns-then-list_len-degrees : goal.returns-then-list_len-degrees
 unfolding own_refusal
 returns-then-list_len-degrees c =
-    let n = c in
-    let line = rw n.line_bytes.ensures at c.if-out_len-wanted.false in
-    let three = n in
-    rw (eq-eqb _ _ three.if-file_len-card.false, ne_eqb _ _ three.if-start-eq0.false, le-leb _ _ three.if-wanted-gt1000000.false, le-leb _ _ line, lt-leb _ _ c.if-list_len-degrees.true)
+    let line = rw c.line_bytes.ensures at c.if-out_len-wanted.false in
+    rw (eq-eqb _ _ c.if-file_len-card.false, ne_eqb _ _ c.if-start-eq0.false, le-leb _ _ c.if-wanted-gt1000000.false, le-leb _ _ line, lt-leb _ _ c.if-list_len-degrees.true)
 
 pub returns : goal.returns
 unfolding own_refusal
 returns c =
-    let n = c in
-    let line = rw n.line_bytes.ensures at c.if-out_len-wanted.false in
-    let three = n in
-    rw (eq-eqb _ _ three.if-file_len-card.false, ne_eqb _ _ three.if-start-eq0.false, le-leb _ _ three.if-wanted-gt1000000.false, le-leb _ _ line, le-leb _ _ c.if-list_len-degrees.false)
+    let line = rw c.line_bytes.ensures at c.if-out_len-wanted.false in
+    rw (eq-eqb _ _ c.if-file_len-card.false, ne_eqb _ _ c.if-start-eq0.false, le-leb _ _ c.if-wanted-gt1000000.false, le-leb _ _ line, le-leb _ _ c.if-list_len-degrees.false)

@@ -1,5 +1,5 @@
 -- `write_line` meets its contract: the letters fill a part of the buffer, and the newline stands behind it. Assumes nothing.
-use mathlib.Core.Path.{◌≡◌, ap, ap₂, ◌∙◌}
+use mathlib.Core.Path.{◌≡◌, ap₂, ◌∙◌}
 use mathlib.Core.List.{List, [], ◌∷◌, ◌++◌, append_assoc}
 use Prim.Native.Nat.{ℕ, suc, ◌+◌, ◌-◌, ◌*◌, ◌<◌}
 use native.Mathlib.Omega.{arith}
@@ -24,34 +24,27 @@ module _ (at n v : ℕ) (ys out : List ℕ) (long : length ys ≡ n) (room : at 
       (set_at (take at out ++ ys) (get_or out (at + n) 0) (drop (suc (at + n)) out) v (at + n) front ∙ simp append_assoc)
 
 -- the bases of the word, by the one conversion
-bases : (c : goal.After-to_bases) → c.to_bases.result.0 ≡ length c.before.before.before.args.word.now * 4
+bases : (word : List ℕ) {n : Bases} → n ≡ bases_of (record { 0 = length word }) → n.0 ≡ length word * 4
 unfolding bases_of
-bases c = ap (λ (n : Bases). n.0) c.to_bases.ensures
+bases word e = rw e
 
 pub overflow_add-end : goal.overflow_add-end
-overflow_add-end c = let n = bases c.before in search rules
-
-pub overflow-sub-write-letters : goal.overflow-sub-write-letters
-overflow-sub-write-letters c = let n = bases c.before in search rules
-
-pub slice_bounds-write_letters-start : goal.slice_bounds-write_letters-start
-slice_bounds-write_letters-start c = let n = bases c.before in search rules
+overflow_add-end c = omega (arith, bases c.args.word.now c.to_bases.ensures, c.requires.1)
 
 pub slice_bounds-write_letters-end : goal.slice_bounds-write_letters-end
-slice_bounds-write_letters-end c = let n = bases c.before in search rules
+slice_bounds-write_letters-end c = let n = bases c.args.word.now c.to_bases.ensures in search rules
 
 pub write_letters-requires : goal.write_letters-requires
-write_letters-requires c = let n = bases c.before.before in search rules
+write_letters-requires c = let n = bases c.args.word.now c.to_bases.ensures in search rules
 
 pub bounds-out-end : goal.bounds-out-end
-bounds-out-end c = let n = bases c.before.before.before.before.before in search rules
+bounds-out-end c = let n = bases c.args.word.now c.to_bases.ensures in search rules
 
 pub returns : goal.returns
 returns c =
-    let b = c.before.before.before.before.before in
-    let s = b.before.before.before in
-    let w = s.args.word.now in
-    let n : b.to_bases.result.0 ≡ length w * 4 = bases b in
-    let e : s.args.at + b.to_bases.result.0 - s.args.at ≡ b.to_bases.result.0 = omega arith in
-    rw (e, c.before.before.write_letters.ensures)
-    (ended s.args.at b.to_bases.result.0 _ (word_letters w) s.args.out.now (omega (arith, letters-length w)) (omega arith))
+    let at = c.args.at in
+    let m = c.to_bases.result.0 in
+    let n : m ≡ length c.args.word.now * 4 = bases c.args.word.now c.to_bases.ensures in
+    let e : at + m - at ≡ m = omega arith in
+    rw (e, c.write_letters.ensures)
+    (ended at m _ (word_letters c.args.word.now) c.args.out.now (omega (arith, letters-length c.args.word.now)) (omega arith))
