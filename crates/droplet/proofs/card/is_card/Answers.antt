@@ -27,7 +27,7 @@ pub returns-then-starts_with : goal.returns-then-starts_with
 returns-then-starts_with c =
     let head : c.card_head-head.result ≡ head_bytes c.args.card (card_weights c.args.bytes.now) = c.card_head-head.ensures ∙ rw (lent-weights _ _ c.requires.0) in
     let starts : c.starts_with.result ≡ same_bytes (take weights_start c.args.bytes.now) (head_bytes c.args.card (card_weights c.args.bytes.now))
-        = c.starts_with.ensures ∙ rw (head, head-length _ _) in
+    = c.starts_with.ensures ∙ rw (head, head-length _ _) in
     and_then starts c.if-starts_with.true (c.is_width.ensures ∙ rw (lent-rest _ _ c.requires.0))
     ∙ sym (ends-decide _ (omega (arith, c.requires.0, c.requires.2)) _)
 
@@ -35,5 +35,5 @@ pub returns-else-starts_with : goal.returns-else-starts_with
 returns-else-starts_with c =
     let head : c.card_head-head.result ≡ head_bytes c.args.card (card_weights c.args.bytes.now) = c.card_head-head.ensures ∙ rw (lent-weights _ _ c.requires.0) in
     let starts : c.starts_with.result ≡ same_bytes (take weights_start c.args.bytes.now) (head_bytes c.args.card (card_weights c.args.bytes.now))
-        = c.starts_with.ensures ∙ rw (head, head-length _ _) in
+    = c.starts_with.ensures ∙ rw (head, head-length _ _) in
     and-else _ starts c.if-starts_with.false refl ∙ sym (ends-decide _ (omega (arith, c.requires.0, c.requires.2)) _)

@@ -42,12 +42,12 @@ pub returns-then-is_card : goal.returns-then-is_card
 unfolding well_formed
 returns-then-is_card c =
     let own : c.is_card.result ≡ same_bytes c.args.bytes.now (card_bytes (card_numbers c.args.bytes.now) (card_weights c.args.bytes.now))
-        = c.is_card.ensures ∙ rw c.card_numbers.ensures in
+    = c.is_card.ensures ∙ rw c.card_numbers.ensures in
     and_then own c.if-is_card.true (by_four _ _ c.weights_end-end.ensures.0 c.if-bytes-end.false)
 
 pub returns-else-is_card : goal.returns-else-is_card
 unfolding well_formed
 returns-else-is_card c =
     let own : c.is_card.result ≡ same_bytes c.args.bytes.now (card_bytes (card_numbers c.args.bytes.now) (card_weights c.args.bytes.now))
-        = c.is_card.ensures ∙ rw c.card_numbers.ensures in
+    = c.is_card.ensures ∙ rw c.card_numbers.ensures in
     and-else _ own c.if-is_card.false refl

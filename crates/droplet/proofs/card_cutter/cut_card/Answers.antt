@@ -52,20 +52,26 @@ pub returns-in-Refused : goal.returns-in-Refused
 returns-in-Refused c = illegal _ _ _ _ (stopped _ _ c.check_plan.ensures c.in-Refused.is)
 
 pub overflow_add-size : goal.overflow_add-size
-overflow_add-size c = ?
+overflow_add-size c =
+    let weights = (passed _ _ c.check_plan.ensures c.in_default.is).legal.weights in
+    record { fits = omega (arith, c.width_length.ensures, width-short c.args.card) }
 
 pub returns-then-out-size : goal.returns-then-out-size
-returns-then-out-size c = ?
+returns-then-out-size c =
+    short _ _ _ (passed _ _ c.check_plan.ensures c.in_default.is).unrefused (omega (arith, c.if-out-size.true, c.width_length.ensures))
 
 pub card_head-requires : goal.card_head-requires
-card_head-requires c = ?
+card_head-requires c = let weights = (passed _ _ c.check_plan.ensures c.in_default.is).legal.weights in omega arith
 
 pub copy_both-requires : goal.copy_both-requires
 copy_both-requires c =
     omega (arith, ap length c.card_head.ensures ∙ head-length c.args.card c.args.weights.now, c.if-out-size.false)
 
 pub put_width-requires : goal.put_width-requires
-put_width-requires c = ?
+put_width-requires c =
+    simp (length-take, length-drop) (omega (arith, c.if-out-size.false, c.width_length.ensures, c.copy_both.auto.to))
 
 pub returns : goal.returns
-returns c = ?
+returns c =
+    written _ _ _ (passed _ _ c.check_plan.ensures c.in_default.is).unrefused _ _ _ _ _ (rw c.width_length.ensures) refl c.if-out-size.false
+    c.card_head.ensures c.copy_both.ensures c.put_width.ensures

@@ -8,7 +8,7 @@ use lib.ListN.{length, take, drop, length-take, length-drop}
 use lib.Seq.{take_all}
 use Rattle.droplet.specs.Loops.{xor_front}
 use Rattle.droplet.proofs.XorFront.{front-none, front-segment}
-use Rattle.droplet.proofs.droplet.xor_segment.Goals.{Joined-n-e, then-n-e, else-n-e}
+use Rattle.droplet.proofs.droplet.xor_segment.Goals.{then-n-e, else-n-e}
 use Rattle.droplet.proofs.droplet.xor_segment.Goals as goal
 
 -- what stands in the file of a segment from a on, where e is its end or the file's
@@ -29,9 +29,6 @@ module _ (file : List ℕ) (a L e : ℕ) where
         bytes = take_all (e - a) (drop a file) (omega arith) ∙ sym (take_all L (drop a file) (omega arith));
       }
 
-part : (c : Joined-n-e) → Part c.args.file.now (c.args.s * c.args.l) c.args.l c.if-n-e.e
-part c = elim c.if-n-e.branch [ then-n-e w ↦ last _ _ _ _ w.e-is w.if-n-e.true | else-n-e w ↦ whole _ _ _ _ w.e-is w.if-n-e.false ]
-
 pub overflow_mul-a : goal.overflow_mul-a
 overflow_mul-a c = omega (arith, mul-le-mul_left c.args.s c.requires.0)
 
@@ -39,17 +36,26 @@ pub overflow_add-e : goal.overflow_add-e
 overflow_add-e c = omega (arith, mul-le-mul_left c.args.s c.requires.0)
 
 pub slice_bounds-xor_into-end : goal.slice_bounds-xor_into-end
-slice_bounds-xor_into-end c = (part c.before.before.before).inside
+slice_bounds-xor_into-end c =
+    let p : Part c.args.file.now (c.args.s * c.args.l) c.args.l c.if-n-e.e
+    = elim c.if-n-e.branch [ then-n-e w ↦ last _ _ _ _ w.e-is w.if-n-e.true | else-n-e w ↦ whole _ _ _ _ w.e-is w.if-n-e.false ] in
+    p.inside
 
 pub xor_into-requires : goal.xor_into-requires
-xor_into-requires c = let p = part c.before.before.before.before in simp length-take (omega (arith, p.inside, p.ends))
+xor_into-requires c =
+    let p : Part c.args.file.now (c.args.s * c.args.l) c.args.l c.if-n-e.e
+    = elim c.if-n-e.branch [ then-n-e w ↦ last _ _ _ _ w.e-is w.if-n-e.true | else-n-e w ↦ whole _ _ _ _ w.e-is w.if-n-e.false ] in
+    simp length-take (omega (arith, p.inside, p.ends))
 
 pub returns-then-a-e : goal.returns-then-a-e
 returns-then-a-e c =
-    let j = c.before.before.before.before.before.before.before in
-    c.xor_into.ensures ∙ ap (xor_front _) (part j).bytes ∙ sym (front-segment _ _ _ _ c.requires.1)
+    let p : Part c.args.file.now (c.args.s * c.args.l) c.args.l c.if-n-e.e
+    = elim c.if-n-e.branch [ then-n-e w ↦ last _ _ _ _ w.e-is w.if-n-e.true | else-n-e w ↦ whole _ _ _ _ w.e-is w.if-n-e.false ] in
+    c.xor_into.ensures ∙ ap (xor_front _) p.bytes ∙ sym (front-segment _ _ _ _ c.requires.1)
 
 pub returns-else-a-e : goal.returns-else-a-e
 returns-else-a-e c =
+    let p : Part c.args.file.now (c.args.s * c.args.l) c.args.l c.if-n-e.e
+    = elim c.if-n-e.branch [ then-n-e w ↦ last _ _ _ _ w.e-is w.if-n-e.true | else-n-e w ↦ whole _ _ _ _ w.e-is w.if-n-e.false ] in
     let none : c.if-n-e.e - c.args.s * c.args.l ≡ 0 = omega arith in
-    sym (front-segment _ _ _ _ c.requires.1 ∙ ap (xor_front _) (sym (part c.before).bytes ∙ rw none) ∙ front-none _)
+    sym (front-segment _ _ _ _ c.requires.1 ∙ ap (xor_front _) (sym p.bytes ∙ rw none) ∙ front-none _)
