@@ -1,6 +1,5 @@
 -- `is_card` meets its contract: the bytes before the weights and those behind them decide. Assumes nothing.
 use mathlib.Core.Path.{◌≡◌, refl, sym, ap, ◌∙◌}
-use Prim.Native.Nat.{◌≤◌}
 use native.Mathlib.Omega.{arith}
 use lib.ListN.{length, take, length-take}
 use Rattle.field.specs.Bytes.{same_bytes}

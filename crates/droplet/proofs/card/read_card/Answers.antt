@@ -2,12 +2,11 @@
 use mathlib.Core.Path.{◌≡◌, sym, ◌∙◌}
 use mathlib.Core.Bool.{true, false}
 use mathlib.Core.List.{List}
-use Prim.Native.Nat.{ℕ, ◌≤◌}
+use Prim.Native.Nat.{ℕ}
 use native.Mathlib.Omega.{arith}
-use lib.ListN.{length}
 use borrow.Author.Tests.{eq-eqb, ne_eqb}
 use Rattle.droplet.specs.declared.card.Card.{Card}
-use Rattle.droplet.specs.PoolCard.{weights_start, well_formed, card_numbers, card_weights}
+use Rattle.droplet.specs.PoolCard.{well_formed, card_numbers, card_weights}
 use Rattle.droplet.specs.Questions.{card_refusal, card_reading_refusal, card_reading}
 use Rattle.droplet.specs.Questions.CardRead.{accepted, refused}
 use Rattle.droplet.proofs.CardBytes.{head-before-end, head-there, lent-weights, well-formed-long}

@@ -12,7 +12,7 @@ use Rattle.droplet.specs.PoolCard.{width_field, card_bytes, weights_start}
 use Rattle.droplet.specs.Questions.{card_refusal}
 use Rattle.droplet.specs.CardCutter.{cut_card, CutPromise}
 use Rattle.droplet.proofs.CardBytes.{head_bytes, width-short, head-length, parts, card-length}
-use Rattle.droplet.proofs.CardAnswers.{SaysNo, Passed, passed, stopped}
+use Rattle.droplet.proofs.CardAnswers.{SaysNo, passed, stopped}
 use Rattle.droplet.proofs.card_cutter.cut_card.Goals as goal
 
 module _ (c : Card) (ws out : List ℕ) where

@@ -1,10 +1,9 @@
 -- `degree_for` meets its contract: in a turn fewer weights than all are summed. Assumes nothing.
 use mathlib.Core.Path.{refl, sym, ◌∙◌}
-use Prim.Native.Nat.{◌-◌, ◌<◌}
 use native.Mathlib.Nat.{sub-zero}
 use native.Mathlib.Numerals.{add-one}
 use native.Mathlib.Omega.{arith}
-use Rattle.droplet.specs.PoolCard.{weight_count, first_weights}
+use Rattle.droplet.specs.PoolCard.{first_weights}
 use Rattle.droplet.specs.Droplet.{degree}
 use Rattle.droplet.proofs.Degree.{degree-before, degree-found, degree-next}
 use borrow.Author.Rules.{rules}
