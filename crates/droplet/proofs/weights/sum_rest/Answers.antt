@@ -1,4 +1,4 @@
--- What the search leaves. Assumes nothing.
+-- `sum_rest` meets its contract: a turn adds one more weight. Assumes nothing.
 use mathlib.Core.Path.{ap, ◌∙◌}
 use native.Mathlib.Numerals.{add-one}
 use native.Mathlib.Omega.{arith}
