@@ -50,51 +50,40 @@ module _ (card : Card) (ws : List ℕ) where
       unfolding plan_of
       plan-ready k counted some last = rw (says_nothing card ws two three (four-yes some) last, counted, summed, four-yes some)
 
-two : (c : goal.Then-sizes_right) → sizes_right c.before.before.before.args.card ≡ true
-two c = sym c.before.sizes_right.ensures ∙ c.if-sizes_right.true
-
-three : (c : goal.Then-limits_right) → limits_right c.before.before.before.before.before.args.card ≡ true
-three c = sym c.before.limits_right.ensures ∙ c.if-limits_right.true
-
 pub right_sum-sum-requires : goal.right_sum-sum-requires
-right_sum-sum-requires c = let sizes = sizes-true _ (two c.before.before) in (sizes.l-least, sizes.f-most)
+right_sum-sum-requires c =
+    let sizes = sizes-true c.args.card (sym c.sizes_right.ensures ∙ c.if-sizes_right.true) in
+    (sizes.l-least, sizes.f-most)
 
 pub returns-then-sum-eq0 : goal.returns-then-sum-eq0
-returns-then-sum-eq0 c = let then = c.before.before in
-    plan-4 _ _ _ c.before.right_sum-sum.ensures (two then.before.before) (three then) c.if-sum-eq0.true
+returns-then-sum-eq0 c =
+    plan-4 _ _ _ c.right_sum-sum.ensures (sym c.sizes_right.ensures ∙ c.if-sizes_right.true) (sym c.limits_right.ensures ∙ c.if-limits_right.true)
+    c.if-sum-eq0.true
 
 pub segment_count-requires : goal.segment_count-requires
 segment_count-requires c =
-    let then = c.before.before.before.before in
-    let sizes = sizes-true _ (two then.before.before) in
+    let sizes = sizes-true c.args.card (sym c.sizes_right.ensures ∙ c.if-sizes_right.true) in
     (sizes.l-least, sizes.f-most)
 
-pub overflow-cast-t11 : goal.overflow-cast-t11
-overflow-cast-t11 c =
-    let summed = c.before.before.before.before in
-    let start = summed.before.before.before.before.before.before in
-    let right = four-yes start.args.card start.args.weights.now _ summed.right_sum-sum.ensures c.before.before.before.if-sum-eq0.false in
-    let weights = weights-true start.args.card start.args.weights.now right in
+pub overflow_cast-result : goal.overflow_cast-result
+overflow_cast-result c =
+    let right = four-yes c.args.card c.args.weights.now _ c.right_sum-sum.ensures c.if-sum-eq0.false in
+    let weights = weights-true c.args.card c.args.weights.now right in
     search rules
 
 pub returns-then-width_right : goal.returns-then-width_right
 returns-then-width_right c =
-    let width = c.before.before in
-    let summed = width.before.before in
-    let then = summed.before in
-    plan-ready _ _ _ summed.right_sum-sum.ensures (two then.before.before) (three then) _ c.segment_count.ensures width.before.if-sum-eq0.false
-    (sym width.width_right.ensures ∙ c.before.if-width_right.true)
+    plan-ready _ _ _ c.right_sum-sum.ensures (sym c.sizes_right.ensures ∙ c.if-sizes_right.true) (sym c.limits_right.ensures ∙ c.if-limits_right.true) _
+    c.segment_count.ensures c.if-sum-eq0.false (sym c.width_right.ensures ∙ c.if-width_right.true)
 
 pub returns-then-limits_right : goal.returns-then-limits_right
 returns-then-limits_right c =
-    let width = c.before in
-    let summed = width.before.before in
-    let then = summed.before in
-    plan-27 _ _ _ summed.right_sum-sum.ensures (two then.before.before) (three then) width.before.if-sum-eq0.false
-    (sym width.width_right.ensures ∙ c.if-width_right.false)
+    plan-27 _ _ _ c.right_sum-sum.ensures (sym c.sizes_right.ensures ∙ c.if-sizes_right.true) (sym c.limits_right.ensures ∙ c.if-limits_right.true)
+    c.if-sum-eq0.false (sym c.width_right.ensures ∙ c.if-width_right.false)
 
 pub returns-then-sizes_right : goal.returns-then-sizes_right
-returns-then-sizes_right c = plan-3 _ _ (two c.before.before) (sym c.before.limits_right.ensures ∙ c.if-limits_right.false)
+returns-then-sizes_right c =
+    plan-3 _ _ (sym c.sizes_right.ensures ∙ c.if-sizes_right.true) (sym c.limits_right.ensures ∙ c.if-limits_right.false)
 
 pub returns : goal.returns
-returns c = plan-2 _ _ (sym c.before.sizes_right.ensures ∙ c.if-sizes_right.false)
+returns c = plan-2 _ _ (sym c.sizes_right.ensures ∙ c.if-sizes_right.false)

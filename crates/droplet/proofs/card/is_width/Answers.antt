@@ -21,23 +21,18 @@ nothing : (card : Card) (bytes : List ℕ) → card.interleaved ≡ false → le
 nothing card [] f e = rw (no-width-field card f) (sym (eq-same []))
 nothing card (b ∷ bytes) f e = absurd (let z : ⊥ = omega (arith, e, ap length (no-width-field card f)) in z)
 
--- as long as the field
-long : (c : goal.Else-bytes-width_length) → (let x = c.before.before.before.args in length x.bytes.now ≡ length (width_field x.card))
-long c = omega (arith, c.if-bytes-width_length.false, c.before.width_length.ensures)
-
-field : (c : goal.After-width_bytes) → c.width_bytes.result ≡ width_field c.before.before.before.before.before.args.card
-field c = c.width_bytes.ensures ∙ sym (width-field _ c.before.if-card.true)
-
 pub returns-then-bytes-width_length : goal.returns-then-bytes-width_length
-returns-then-bytes-width_length c = same_length _ _ (λ e. c.if-bytes-width_length.true (e ∙ sym c.before.width_length.ensures))
+returns-then-bytes-width_length c = same_length _ _ (λ e. c.if-bytes-width_length.true (e ∙ sym c.width_length.ensures))
 
 pub starts_with-requires : goal.starts_with-requires
-starts_with-requires c = omega (arith, ap length (field c.before), long c.before.before.before)
+starts_with-requires c =
+    let field : c.width_bytes.result ≡ width_field c.args.card = c.width_bytes.ensures ∙ sym (width-field _ c.if-card.true) in
+    omega (arith, ap length field, c.width_length.ensures)
 
 pub returns-then-card : goal.returns-then-card
 returns-then-card c =
-    let bytes = c.before.before in
-    c.starts_with.ensures ∙ rw (field bytes) (whole _ _ (long bytes.before.before))
+    let field : c.width_bytes.result ≡ width_field c.args.card = c.width_bytes.ensures ∙ sym (width-field _ c.if-card.true) in
+    c.starts_with.ensures ∙ rw field (whole _ _ (omega (arith, c.width_length.ensures)))
 
 pub returns : goal.returns
-returns c = nothing _ _ c.if-card.false (long c.before)
+returns c = nothing _ _ c.if-card.false (omega (arith, c.width_length.ensures))

@@ -1,21 +1,24 @@
 -- `limits_right` meets its contract: its tests are the definition's, in the same order. Assumes nothing.
-use mathlib.Core.Path.{◌≡◌, refl}
-use mathlib.Core.Bool.{◌&&◌}
-use mathlib.Core.Logic.{⊎_elim}
-use lib.Dec.{leb}
-use Rattle.droplet.specs.Questions.{within, limits_right}
-use Rattle.droplet.proofs.Conjunctions.{and_then, and-else}
+use mathlib.Core.Path.{sym, ◌∙◌}
+use mathlib.Core.Bool.{false≢true}
+use mathlib.Core.Logic.{inl, inr}
+use borrow.Author.Tests.{le-leb, lt-leb}
+use Rattle.droplet.specs.Questions.{limits_right}
+use Rattle.droplet.proofs.card.limits_right.Goals.{then-within, else-within}
 use Rattle.droplet.proofs.card.limits_right.Goals as goal
-
-two-tests : (c : goal.Joined-within) → let card = c.before.before.before.args.card in c.if-within.if2 ≡ (within 1 card.m 20 && leb card.lo card.hi)
-two-tests c =
-    let first = c.before.within.ensures in
-    ⊎_elim (λ w. and_then first w.0.taken w.2) (λ w. and-else _ first w.0.left w.1) c.if-within.branch
 
 pub returns-then-card : goal.returns-then-card
 unfolding limits_right
-returns-then-card c = and_then (two-tests c.before.before) c.before.if-card.true refl
+returns-then-card c = rw (sym c.within.ensures ∙ c.if-card.true.0, le-leb c.args.card.lo c.args.card.hi c.if-card.true.1)
 
 pub returns-else-card : goal.returns-else-card
 unfolding limits_right
-returns-else-card c = and-else _ (two-tests c.before) c.if-card.false refl
+returns-else-card c =
+    elim c.if-within.branch [
+      | then-within w ↦
+          elim c.if-card.either [
+            | inl h ↦ rw (w.t-3-is, sym c.within.ensures ∙ h.0, lt-leb c.args.card.lo c.args.card.hi h.1)
+            | inr f ↦ absurd (false≢true (sym f ∙ w.if-within.true))
+          ]
+      | else-within w ↦ rw (w.t-3-is, w.if-within.false, sym c.within.ensures ∙ w.if-within.false)
+    ]

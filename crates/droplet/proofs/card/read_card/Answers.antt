@@ -2,12 +2,11 @@
 use mathlib.Core.Path.{◌≡◌, sym, ◌∙◌}
 use mathlib.Core.Bool.{true, false}
 use mathlib.Core.List.{List}
-use Prim.Native.Nat.{ℕ, ◌≤◌}
+use Prim.Native.Nat.{ℕ}
 use native.Mathlib.Omega.{arith}
-use lib.ListN.{length}
 use borrow.Author.Tests.{eq-eqb, ne_eqb}
 use Rattle.droplet.specs.declared.card.Card.{Card}
-use Rattle.droplet.specs.PoolCard.{weights_start, well_formed, card_numbers, card_weights}
+use Rattle.droplet.specs.PoolCard.{well_formed, card_numbers, card_weights}
 use Rattle.droplet.specs.Questions.{card_refusal, card_reading_refusal, card_reading}
 use Rattle.droplet.specs.Questions.CardRead.{accepted, refused}
 use Rattle.droplet.proofs.CardBytes.{head-before-end, head-there, lent-weights, well-formed-long}
@@ -32,38 +31,31 @@ module _ (bytes : List ℕ) where
     unfolding card_reading
     reading-stopped n h = rw (refusal ∙ h.number, ne_eqb n 0 h.not-zero)
 
-one-yes : (c : goal.Then-well_formed) → well_formed c.before.before.before.args.bytes.now ≡ true
-one-yes c = sym c.before.well-formed-2.ensures ∙ c.if-well_formed.true
-
--- where the weights stand, in a well-formed card
-within : (c : goal.After-weights_end-end) → (let bytes = c.before.before.before.before.before.args.bytes.now in
-    (weights_start ≤ c.weights_end-end.result) × (c.weights_end-end.result ≤ length bytes))
-within c =
-    let bytes = c.before.before.before.before.before.args.bytes.now in
-    let end = c.weights_end-end.ensures.0 in
-    (omega (arith, end, head-before-end bytes), omega (arith, end, well-formed-long bytes (one-yes c.before.before)))
-
 pub card_numbers-card-requires : goal.card_numbers-card-requires
-card_numbers-card-requires c = head-there _ (well-formed-long _ (one-yes c))
+card_numbers-card-requires c = head-there _ (well-formed-long _ (sym c.well_formed-2.ensures ∙ c.if-well_formed.true))
 
 pub weights_end-end-requires : goal.weights_end-end-requires
-weights_end-end-requires c = head-there _ (well-formed-long _ (one-yes c.before))
+weights_end-end-requires c = head-there _ (well-formed-long _ (sym c.well_formed-2.ensures ∙ c.if-well_formed.true))
+
+pub slice_bounds-check_plan-start : goal.slice_bounds-check_plan-start
+slice_bounds-check_plan-start c = omega (arith, head-before-end c.args.bytes.now, c.weights_end-end.ensures.0)
+
+pub slice_bounds-check_plan-count : goal.slice_bounds-check_plan-count
+slice_bounds-check_plan-count c = omega (arith, head-before-end c.args.bytes.now, c.weights_end-end.ensures.0)
+
+pub slice_bounds-check_plan-end : goal.slice_bounds-check_plan-end
+slice_bounds-check_plan-end c =
+    omega (arith, c.weights_end-end.ensures.0, well-formed-long c.args.bytes.now (sym c.well_formed-2.ensures ∙ c.if-well_formed.true))
 
 pub returns-in-Ready : goal.returns-in-Ready
 returns-in-Ready c =
-    let call = c.before.before.before in
-    let end = call.before.before in
-    let numbers = end.before in
-    reading-passed _ _ (one-yes numbers.before) numbers.card_numbers-card.ensures _ (lent-weights _ _ end.weights_end-end.ensures.0) _ _ _
-    (passed _ _ call.check_plan.ensures c.before.plan-1.given.1)
+    reading-passed _ _ (sym c.well_formed-2.ensures ∙ c.if-well_formed.true) c.card_numbers-card.ensures _
+    (lent-weights _ _ c.weights_end-end.ensures.0) _ _ _ (passed _ _ c.check_plan.ensures c.in-Ready.is)
 
 pub returns-in-Refused : goal.returns-in-Refused
 returns-in-Refused c =
-    let call = c.before.before.before in
-    let end = call.before.before in
-    let numbers = end.before in
-    reading-stopped _ _ (one-yes numbers.before) numbers.card_numbers-card.ensures _ (lent-weights _ _ end.weights_end-end.ensures.0) _
-    (stopped _ _ call.check_plan.ensures c.before.n-1.given.1)
+    reading-stopped _ _ (sym c.well_formed-2.ensures ∙ c.if-well_formed.true) c.card_numbers-card.ensures _
+    (lent-weights _ _ c.weights_end-end.ensures.0) _ (stopped _ _ c.check_plan.ensures c.in-Refused.is)
 
 pub returns : goal.returns
-returns c = reading-1 _ (sym c.before.well-formed-2.ensures ∙ c.if-well_formed.false)
+returns c = reading-1 _ (sym c.well_formed-2.ensures ∙ c.if-well_formed.false)

@@ -32,24 +32,22 @@ pub returns-then-bytes-lt20 : goal.returns-then-bytes-lt20
 returns-then-bytes-lt20 c = too_short _ c.if-bytes-lt20.true
 
 pub returns-then-bytes-end : goal.returns-then-bytes-end
-returns-then-bytes-end c = cut_off _ _ c.before.weights_end-end.ensures.0 c.if-bytes-end.true
-
--- compared with the card of its own numbers
-own : (c : goal.After-is_card) → (let card = c.before.before.before.before.before.before.args.bytes.now in
-    c.is_card.result ≡ same_bytes card (card_bytes (card_numbers card) (card_weights card)))
-own c = c.is_card.ensures ∙ rw c.before.card_numbers.ensures
+returns-then-bytes-end c = cut_off _ _ c.weights_end-end.ensures.0 c.if-bytes-end.true
 
 pub overflow_sub-result : goal.overflow_sub-result
-overflow_sub-result c =
-    let end = c.before.before.before.before in
-    omega (arith, head-before-end end.before.before.before.args.bytes.now, end.weights_end-end.ensures.0)
+overflow_sub-result c = omega (arith, head-before-end c.args.bytes.now, c.weights_end-end.ensures.0)
 
+-- the bytes are compared with the card of their own numbers
 pub returns-then-is_card : goal.returns-then-is_card
 unfolding well_formed
 returns-then-is_card c =
-    let end = c.before.before.before.before in
-    and_then (own c.before) c.if-is_card.true (by_four _ _ end.weights_end-end.ensures.0 c.before.before.before.if-bytes-end.false)
+    let own : c.is_card.result ≡ same_bytes c.args.bytes.now (card_bytes (card_numbers c.args.bytes.now) (card_weights c.args.bytes.now))
+    = c.is_card.ensures ∙ rw c.card_numbers.ensures in
+    and_then own c.if-is_card.true (by_four _ _ c.weights_end-end.ensures.0 c.if-bytes-end.false)
 
 pub returns-else-is_card : goal.returns-else-is_card
 unfolding well_formed
-returns-else-is_card c = and-else _ (own c.before) c.if-is_card.false refl
+returns-else-is_card c =
+    let own : c.is_card.result ≡ same_bytes c.args.bytes.now (card_bytes (card_numbers c.args.bytes.now) (card_weights c.args.bytes.now))
+    = c.is_card.ensures ∙ rw c.card_numbers.ensures in
+    and-else _ own c.if-is_card.false refl

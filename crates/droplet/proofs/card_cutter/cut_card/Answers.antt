@@ -12,7 +12,7 @@ use Rattle.droplet.specs.PoolCard.{width_field, card_bytes, weights_start}
 use Rattle.droplet.specs.Questions.{card_refusal}
 use Rattle.droplet.specs.CardCutter.{cut_card, CutPromise}
 use Rattle.droplet.proofs.CardBytes.{head_bytes, width-short, head-length, parts, card-length}
-use Rattle.droplet.proofs.CardAnswers.{SaysNo, Passed, passed, stopped}
+use Rattle.droplet.proofs.CardAnswers.{SaysNo, passed, stopped}
 use Rattle.droplet.proofs.card_cutter.cut_card.Goals as goal
 
 module _ (c : Card) (ws out : List ℕ) where
@@ -48,40 +48,30 @@ module _ (c : Card) (ws out : List ℕ) where
         ∙ ap (λ (n : ℕ). card_bytes c ws ++ drop n out) (sym s) in
         record { says = rw (legal, yes, whole); leaves = rw (legal, yes, whole) (all ∙ card) }
 
--- past the questions 2 to 4 and 27
-legal : (c : goal.In_default) → (let args = c.before.before.before.before.before.args in
-    Passed args.card args.weights.now c.enum_told-1.given.0.0.segments c.enum_told-1.given.0.0.degrees c.enum_told-1.given.0.0.sum)
-legal c = passed _ _ c.before.before.check_plan.ensures c.enum_told-1.given.1
-
 pub returns-in-Refused : goal.returns-in-Refused
-returns-in-Refused c = illegal _ _ _ _ (stopped _ _ c.before.before.before.check_plan.ensures c.before.n-1.given.1)
+returns-in-Refused c = illegal _ _ _ _ (stopped _ _ c.check_plan.ensures c.in-Refused.is)
 
 pub overflow_add-size : goal.overflow_add-size
 overflow_add-size c =
-    let weights = (legal c.before).legal.weights in
-    record { fits = omega (arith, c.width_length.ensures, width-short c.before.before.before.before.before.before.args.card) }
+    let weights = (passed _ _ c.check_plan.ensures c.in_default.is).legal.weights in
+    record { fits = omega (arith, c.width_length.ensures, width-short c.args.card) }
 
 pub returns-then-out-size : goal.returns-then-out-size
-returns-then-out-size c = short _ _ _ (legal c.before.before).unrefused (omega (arith, c.if-out-size.true, c.before.width_length.ensures))
+returns-then-out-size c =
+    short _ _ _ (passed _ _ c.check_plan.ensures c.in_default.is).unrefused (omega (arith, c.if-out-size.true, c.width_length.ensures))
 
 pub card_head-requires : goal.card_head-requires
-card_head-requires c = let weights = (legal c.before.before).legal.weights in omega arith
+card_head-requires c = let weights = (passed _ _ c.check_plan.ensures c.in_default.is).legal.weights in omega arith
 
 pub copy_both-requires : goal.copy_both-requires
 copy_both-requires c =
-    let head = c.before.before in
-    omega (arith, ap length head.card_head.ensures ∙ head-length _ _, head.before.if-out-size.false)
+    omega (arith, ap length c.card_head.ensures ∙ head-length c.args.card c.args.weights.now, c.if-out-size.false)
 
 pub put_width-requires : goal.put_width-requires
 put_width-requires c =
-    let early = c.before.before.before.before.before.before in
-    simp (length-take, length-drop) (omega (arith, early.before.if-out-size.false, early.before.before.width_length.ensures, c.before.before.out-1.given))
+    simp (length-take, length-drop) (omega (arith, c.if-out-size.false, c.width_length.ensures, c.copy_both.auto.to))
 
 pub returns : goal.returns
 returns c =
-    let put = c.before.before in
-    let copied = put.before.before.before.before in
-    let head = copied.before.before.before in
-    let width = head.before.before in
-    written _ _ _ (legal width.before).unrefused _ _ _ _ _ (rw width.width_length.ensures) refl head.before.if-out-size.false
-    head.card_head.ensures copied.copy_both.ensures put.put_width.ensures
+    written _ _ _ (passed _ _ c.check_plan.ensures c.in_default.is).unrefused _ _ _ _ _ (rw c.width_length.ensures) refl c.if-out-size.false
+    c.card_head.ensures c.copy_both.ensures c.put_width.ensures

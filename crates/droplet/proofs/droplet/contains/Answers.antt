@@ -1,6 +1,5 @@
--- What the search leaves. Assumes nothing.
+-- `contains` meets its contract: an item that is `t` ends the search, and one that is not changes nothing. Assumes nothing.
 use mathlib.Core.Path.{sym, ◌∙◌}
-use Prim.Native.Nat.{◌-◌}
 use Rattle.droplet.proofs.Sets.{member-here, member-past, member-end}
 use borrow.Author.Rules.{rules}
 use Rattle.droplet.proofs.droplet.contains.Goals as goal

@@ -1,4 +1,4 @@
--- What the search leaves. Assumes nothing.
+-- `payload_of` meets its contract: a turn XORs one more segment in. Assumes nothing.
 use mathlib.Core.Path.{◌≡◌, refl, sym, ap, ◌∙◌}
 use mathlib.Core.List.{List}
 use Prim.Native.Nat.{ℕ, ◌+◌, ◌-◌, ◌<◌, ◌≤◌}

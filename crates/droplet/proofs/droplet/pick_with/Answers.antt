@@ -1,4 +1,4 @@
--- What the search leaves. Assumes nothing.
+-- `pick_with` meets its contract: a turn draws a number, and what joins is written and marked. Assumes nothing.
 use mathlib.Core.Path.{refl, sym, ap, ◌∙◌}
 use Prim.Native.Nat.{◌-◌}
 use native.Mathlib.Omega.{arith}
@@ -19,13 +19,10 @@ joining_segment-s-requires c = (omega arith, c.loop-i.invariant.1)
 
 pub loop-i-preserved : goal.loop-i-preserved
 loop-i-preserved c =
-    let m = c in
-    let s = m in
-    let n = s in
-    let l = n.loop-i in (
-      picking-turns _ _ _ _ _ _ _ _ l.invariant.0 _ _ _ (omega arith) (omega arith) n.next-state.ensures refl s.joining_segment-s.ensures,
-      marked_more l.words-1 _ l.list l.i _ m.mark.ensures (omega arith) l.invariant.1,
-      ap length m.mark.ensures ∙ with-length _ _ ∙ l.invariant.2,
+    let l = c.loop-i in (
+      picking-turns _ _ _ _ _ _ _ _ l.invariant.0 _ _ _ (omega arith) (omega arith) c.next-state.ensures refl c.joining_segment-s.ensures,
+      marked_more l.words _ l.list l.i _ c.mark.ensures (omega arith) l.invariant.1,
+      ap length c.mark.ensures ∙ with-length _ _ ∙ l.invariant.2,
     )
 
 pub returns : goal.returns

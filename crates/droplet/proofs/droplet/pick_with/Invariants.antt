@@ -8,7 +8,7 @@ use Rattle.droplet.proofs.droplet.pick_with.Given as goal
 
 abbrev pub invariant-loop-i : goal.invariant-loop-i
 invariant-loop-i l =
-    Picking l.d l.initial.state l.k l.initial.list l.state l.list l.j l.i × Marked l.words (take l.i l.list) × (length l.words ≡ length l.initial.words)
+    Picking l.k l.d l.initial.state l.initial.list l.state l.list l.j l.i × Marked l.words (take l.i l.list) × (length l.words ≡ length l.initial.words)
 
 abbrev pub decreases-loop-i : goal.decreases-loop-i
-decreases-loop-i l = l.initial.state - l.i
+decreases-loop-i l = l.d - l.i

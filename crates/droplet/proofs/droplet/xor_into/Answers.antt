@@ -1,6 +1,5 @@
--- What the search leaves. Assumes nothing.
+-- `xor_into` meets its contract: a turn XORs one more byte in, and after the last all of `q` is in. Assumes nothing.
 use mathlib.Core.Path.{refl, sym, ap, ◌∙◌}
-use Prim.Native.Nat.{◌-◌}
 use native.Mathlib.Omega.{arith}
 use lib.ListN.{length-set}
 use lib.Seq.{take_all}

@@ -6,7 +6,7 @@ use Rattle.droplet.specs.Loops.{xor_front}
 use Rattle.droplet.proofs.droplet.xor_into.Given as goal
 
 abbrev pub invariant-loop-b : goal.invariant-loop-b
-invariant-loop-b l = (l.b ≤ length l.initial.p) × (l.p ≡ xor_front l.q (take l.b l.initial.p)) × (length l.p ≡ length l.q)
+invariant-loop-b l = (l.b ≤ length l.q) × (l.p ≡ xor_front l.initial.p (take l.b l.q)) × (length l.p ≡ length l.initial.p)
 
 abbrev pub decreases-loop-b : goal.decreases-loop-b
-decreases-loop-b l = length l.initial.p - l.b
+decreases-loop-b l = length l.q - l.b

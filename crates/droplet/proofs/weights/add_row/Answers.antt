@@ -1,7 +1,7 @@
--- What the search leaves. Assumes nothing.
+-- `add_row` meets its contract: a turn adds to lane `j` its byte and leaves the others. Assumes nothing.
 use mathlib.Core.Path.{◌≡◌, refl, ◌∙◌}
 use mathlib.Core.List.{List}
-use Prim.Native.Nat.{ℕ, ◌+◌, ◌-◌, ◌<◌}
+use Prim.Native.Nat.{ℕ, ◌+◌, ◌<◌}
 use native.Mathlib.Omega.{arith}
 use lib.ListN.{get_or, set, length-set}
 use lib.Seq.{get_or-set_same, get_or-set_other}
@@ -27,27 +27,20 @@ module _ (xs ws zs : List ℕ) (from j : ℕ) (now : Grown xs ws zs from j) wher
 pub loop-j-init : goal.loop-j-init
 loop-j-init c = record {
   at_most = search rules;
-  long = c.requires.0.0;
+  long = c.requires.lanes_len.0;
   added = λ k h. omega arith;
   kept = λ k h. refl;
 }
 
-pub overflow_cast-lanes : goal.overflow_cast-lanes
-overflow_cast-lanes c =
-    let l = c in
-    omega (arith, c.type_inv.weights (l.args.from + l.loop-j.j))
-
-pub overflow-add-lanes-2 : goal.overflow-add-lanes-2
-overflow-add-lanes-2 c =
-    let l = c in
-    let s = l in
-    omega (arith, c.type_inv.weights (s.args.from + l.loop-j.j), s.requires.1 l.loop-j.j (omega arith), l.loop-j.invariant.kept l.loop-j.j (omega arith))
+pub overflow_add-lanes-in-loop-j : goal.overflow_add-lanes-in-loop-j
+overflow_add-lanes-in-loop-j c =
+    let j = c.loop-j.j in
+    omega (arith, c.type_inv.weights (c.args.from + j), c.requires.by_index j (omega arith), c.loop-j.invariant.kept j (omega arith))
 
 pub loop-j-preserved : goal.loop-j-preserved
 loop-j-preserved c =
-    let l = c in
-    let a = l.args in
-    next a.lanes.now a.weights.now l.loop-j.lanes a.from l.loop-j.j l.loop-j.invariant _ (omega arith) refl
+    let l = c.loop-j in
+    next c.args.lanes.now c.args.weights.now l.lanes c.args.from l.j l.invariant _ (omega arith) refl
 
 pub returns : goal.returns
 returns c = λ k h. c.loop-j.invariant.added k (omega arith)

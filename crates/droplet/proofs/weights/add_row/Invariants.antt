@@ -13,7 +13,7 @@ pub record Grown (xs ws zs : List ℕ) (from j : ℕ) : Type 0 where
   pub kept : (k : ℕ) → j ≤ k → get_or zs k 0 ≡ get_or xs k 0
 
 abbrev pub invariant-loop-j : goal.invariant-loop-j
-invariant-loop-j l = Grown l.weights l.from l.lanes l.initial.lanes l.j
+invariant-loop-j l = Grown l.initial.lanes l.weights l.lanes l.from l.j
 
 abbrev pub decreases-loop-j : goal.decreases-loop-j
 decreases-loop-j l = 64 - l.j

@@ -14,7 +14,7 @@ pub record Summed (weights lanes : List ℕ) (rows i : ℕ) : Type 0 where
   pub small : (k : ℕ) → k < 64 → get_or lanes k 0 ≤ 255 * i
 
 abbrev pub invariant-loop-i : goal.invariant-loop-i
-invariant-loop-i l = Summed l.rows l.lanes l.initial.lanes l.i
+invariant-loop-i l = Summed l.weights l.lanes l.rows l.i
 
 abbrev pub decreases-loop-i : goal.decreases-loop-i
-decreases-loop-i l = l.initial.lanes - l.i
+decreases-loop-i l = l.rows - l.i

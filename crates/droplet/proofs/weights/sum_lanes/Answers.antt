@@ -1,6 +1,6 @@
--- What the search leaves. Assumes nothing.
+-- `sum_lanes` meets its contract: a turn adds one more weight of the lanes. Assumes nothing.
 use mathlib.Core.Path.{◌≡◌, refl}
-use Prim.Native.Nat.{◌-◌, ◌*◌}
+use Prim.Native.Nat.{◌*◌}
 use native.Mathlib.Numerals.{add-one}
 use native.Mathlib.Omega.{arith}
 use Rattle.droplet.specs.PoolCard.{first_weights}

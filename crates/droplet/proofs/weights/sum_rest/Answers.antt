@@ -1,6 +1,5 @@
--- What the search leaves. Assumes nothing.
+-- `sum_rest` meets its contract: a turn adds one more weight. Assumes nothing.
 use mathlib.Core.Path.{ap, ◌∙◌}
-use Prim.Native.Nat.{◌-◌}
 use native.Mathlib.Numerals.{add-one}
 use native.Mathlib.Omega.{arith}
 use Rattle.droplet.specs.PoolCard.{first_weights}

@@ -9,4 +9,4 @@ unfolding first_weights
 sum_rest-requires c = search rules
 
 pub add_rows-requires : goal.add_rows-requires
-add_rows-requires c = (search rules, λ k h. get_or-replicate 64 k 0 0 h)
+add_rows-requires c = record { lanes_len = search rules; by_index = λ k h. get_or-replicate 64 k 0 0 h }
