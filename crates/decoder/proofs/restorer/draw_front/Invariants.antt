@@ -11,8 +11,9 @@ use Rattle.decoder.proofs.restorer.draw_front.Given as goal
 
 abbrev pub invariant-loop-i : goal.invariant-loop-i
 invariant-loop-i l =
-    (l.i ≤ l.marks) × Picking l.d l.n l.k l.initial.list l.state l.list l.j l.i × (l.found ≡ unmarked_of (missing l.initial.state (take l.i l.list))) × Marked l.words (take l.i l.list)
+    (l.i ≤ l.n) × Picking l.k l.d l.initial.state l.initial.list l.state l.list l.j l.i
+    × (l.found ≡ unmarked_of (missing l.marks (take l.i l.list))) × Marked l.words (take l.i l.list)
     × (length l.words ≡ length l.initial.words)
 
 abbrev pub decreases-loop-i : goal.decreases-loop-i
-decreases-loop-i l = l.marks - l.i
+decreases-loop-i l = l.n - l.i

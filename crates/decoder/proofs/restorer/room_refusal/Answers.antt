@@ -5,9 +5,6 @@ use borrow.Author.Tests.{le-leb, lt-leb}
 use Rattle.decoder.specs.Restorer.{room_refusal}
 use Rattle.decoder.proofs.restorer.room_refusal.Goals as goal
 
-pub overflow-mul-if1 : goal.overflow-mul-if1
-overflow-mul-if1 c = omega (arith, mul-le-mul_left c.args.plan.segments c.requires.0)
-
 pub returns-then-file_len-k : goal.returns-then-file_len-k
 unfolding room_refusal
 returns-then-file_len-k c = rw (lt-leb _ _ c.if-file_len-k.true)
