@@ -1,15 +1,8 @@
 -- `contradicts` meets its contract: one law for each of its answers. Assumes nothing.
-use mathlib.Core.Path.{◌≡◌, sym, ap, ◌∙◌}
+use mathlib.Core.Path.{sym, ap, ◌∙◌}
 use mathlib.Core.Bool.{not}
-use mathlib.Core.Logic.{⊎_elim}
-use Prim.Native.Nat.{ℕ}
 use native.Mathlib.Omega.{arith}
 use lib.Seq.{length-take-le}
-use lib.ListN.{drop}
-use Rattle.droplet.specs.PoolCard.{weight_count}
-use Rattle.decoder.specs.Store.{record_from}
-use Rattle.decoder.specs.Restorer.{contradicts}
-use Rattle.decoder.specs.Loops.{droplet_of}
 use Rattle.decoder.proofs.RecordBytes.{parts-fit}
 use Rattle.decoder.proofs.RecordTurns.{degree-places, list-kept, agrees-unless, xor-long, contradicts-by}
 use borrow.Author.Rules.{rules}
@@ -35,9 +28,6 @@ pub slice_bounds-payload_of-end-2 : goal.slice_bounds-payload_of-end-2
 slice_bounds-payload_of-end-2 c =
     let places = degree-places _ _ _ c.args.bytes.now _ _ _ _ _ c.requires.0 c.requires.1 c.draw_record-drawn.ensures in
     sym (length-take-le _ _ (omega arith))
-
-pub payload_in-requires : goal.payload_in-requires
-payload_in-requires c = (c.requires.1.narrow, omega arith)
 
 pub starts_with-requires : goal.starts_with-requires
 starts_with-requires c =

@@ -1,7 +1,6 @@
--- What the search leaves. Assumes nothing.
+-- `count_contradictions`: a turn is one record's, by `RestoreLoops`. Assumes nothing.
 use mathlib.Core.Path.{refl, sym, ap, ◌∙◌}
 use mathlib.Core.Bool.{true, false}
-use Prim.Native.Nat.{◌-◌}
 use native.Mathlib.Omega.{arith}
 use lib.ListN.{length}
 use Rattle.decoder.proofs.RecordsAt.{record-fits, record-length}

@@ -1,28 +1,28 @@
--- What the search leaves. Assumes nothing.
+-- `draw_front`: a turn draws one segment, by `Picking`, and looks at its mark, by `Unmarked`. Assumes nothing.
 use mathlib.Core.Path.{◌≡◌, refl, sym, ap, ◌∙◌}
-use Prim.Native.Nat.{◌+◌, ◌-◌}
+use mathlib.Core.List.{List}
+use Prim.Native.Nat.{ℕ, ◌+◌, ◌<◌}
 use native.Mathlib.Omega.{arith}
-use lib.ListN.{length, take, set}
-use lib.Seq.{length-take-le}
+use lib.ListN.{length, get_or, take, set}
 use Rattle.field.specs.Generator.{number_drawn}
-use Rattle.droplet.proofs.Picking.{Picking, take_more, picking-begins, picking-turns}
+use Rattle.droplet.proofs.Picking.{take_more, picking-begins, picking-turns}
 use Rattle.droplet.proofs.Bitmap.{marked_more, with-length}
+use Rattle.decoder.specs.declared.restorer.Unmarked.{Unmarked}
 use Rattle.decoder.specs.Restorer.{missing}
-use Rattle.decoder.specs.Loops.{unmarked_of}
+use Rattle.decoder.specs.Loops.{unmarked_of, looked_at}
 use Rattle.decoder.proofs.DrawnFront.{joins-most, looked-several, looked-all}
 use Rattle.decoder.proofs.Unmarked.{looked-more}
 use borrow.Author.Rules.{rules}
 use Rattle.decoder.proofs.restorer.draw_front.Goals as goal
 
+-- once the mark of the segment that joins is looked at, what is found is right of one segment more
+looked : (marks list : List ℕ) (i s : ℕ) {found next : Unmarked} → i < length list → found ≡ unmarked_of (missing marks (take i list))
+    → next ≡ looked_at found s (get_or marks s 0) → next ≡ unmarked_of (missing marks (take (i + 1) (set list i s)))
+looked marks list i s h now e = rw (take_more list i s h) (looked-more marks (take i list) s now e)
+
 pub loop-i-init : goal.loop-i-init
 unfolding missing unmarked_of
 loop-i-init c = (search rules, picking-begins _ _ _ _, refl, c.requires.5, refl)
-
-pub slice_bounds-joining_segment-end-in-loop-i : goal.slice_bounds-joining_segment-end-in-loop-i
-slice_bounds-joining_segment-end-in-loop-i c = sym (length-take-le _ _ (omega arith))
-
-pub joining_segment-s-requires : goal.joining_segment-s-requires
-joining_segment-s-requires c = (omega arith, c.loop-i.invariant.3)
 
 pub bounds-marks-m : goal.bounds-marks-m
 bounds-marks-m c =
@@ -34,20 +34,17 @@ returns-in-Several c =
     let x = c.args in
     let l = c.loop-i in
     let turned = picking-turns _ _ _ _ _ _ _ _ l.invariant.1 _ _ _ (omega arith) (omega arith) c.next-state.ensures refl c.joining_segment-s.ensures in
-    let looked : c.look_at-next.result ≡ unmarked_of (missing x.marks.now (take (l.i + 1) (set l.list l.i c.joining_segment-s.result))) =
-    rw (take_more l.list l.i c.joining_segment-s.result (omega arith)) (looked-more _ _ _ l.invariant.2 c.look_at-next.ensures) in
-    looked-several x.k x.d x.state x.list.now _ _ _ _ turned (omega arith) x.n (omega arith) (omega arith) _ (sym looked ∙ c.in-Several.is)
+    let found = looked x.marks.now l.list l.i _ (omega arith) l.invariant.2 c.look_at-next.ensures in
+    looked-several x.k x.d x.state x.list.now _ _ _ _ turned (omega arith) x.n (omega arith) (omega arith) _ (sym found ∙ c.in-Several.is)
 
 pub loop-i-preserved : goal.loop-i-preserved
 loop-i-preserved c =
-    let x = c.args in
     let l = c.loop-i in
     let pre = c.requires in
-    let looked : c.look_at-next.result ≡ unmarked_of (missing x.marks.now (take (l.i + 1) (set l.list l.i c.joining_segment-s.result))) =
-    rw (take_more l.list l.i c.joining_segment-s.result (omega arith)) (looked-more _ _ _ l.invariant.2 c.look_at-next.ensures) in (
+    let found = looked c.args.marks.now l.list l.i _ (omega arith) l.invariant.2 c.look_at-next.ensures in (
       omega arith,
       picking-turns _ _ _ _ _ _ _ _ l.invariant.1 _ _ _ (omega arith) (omega arith) c.next-state.ensures refl c.joining_segment-s.ensures,
-      looked,
+      found,
       marked_more l.words _ l.list l.i _ c.mark.ensures (omega (arith, l.invariant.1.long, c.loop-i-test.true, pre.2, pre.3)) l.invariant.3,
       ap length c.mark.ensures ∙ with-length _ _ ∙ l.invariant.4,
     )

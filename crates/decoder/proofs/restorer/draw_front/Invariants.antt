@@ -1,5 +1,4 @@
--- `draw_front` meets its contract: the loop is that of `Picking` with a bitmap of what has joined, and a look at the mark of each
--- segment. Assumes nothing.
+-- `draw_front`: the loop is that of `Picking`, with a bitmap of what has joined and a look at each mark. Assumes nothing.
 use mathlib.Core.Path.{◌≡◌}
 use Prim.Native.Nat.{◌-◌, ◌≤◌}
 use lib.ListN.{length, take}

@@ -1,6 +1,5 @@
--- What the search leaves. Assumes nothing.
+-- `has_seed_zero`: a turn looks at one record's seed, by `SeedZero`. Assumes nothing.
 use mathlib.Core.Path.{◌≡◌, sym, ap, ◌∙◌}
-use Prim.Native.Nat.{◌-◌}
 use native.Mathlib.Omega.{arith}
 use lib.ListN.{length}
 use Rattle.decoder.specs.Store.{record_seed}

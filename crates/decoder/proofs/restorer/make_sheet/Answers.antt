@@ -1,5 +1,5 @@
 -- `make_sheet` meets its contract: what is cleared, peeled and counted is the definition's sheet. Assumes nothing.
-use mathlib.Core.Path.{◌≡◌, refl, sym, ap, ◌∙◌}
+use mathlib.Core.Path.{◌≡◌, refl, ap, ◌∙◌}
 use mathlib.Core.List.{List, ◌++◌}
 use Prim.Native.Nat.{ℕ, suc, ◌*◌, ◌≤◌}
 use native.Mathlib.Nat.{mul-le-mul_left}
@@ -51,12 +51,6 @@ module _ (K L : ℕ) (file marks f m : List ℕ) (file_fits : K * L ≤ length f
 
 pub overflow_mul-n : goal.overflow_mul-n
 overflow_mul-n c = omega (arith, mul-le-mul_left c.args.plan.segments c.requires.1.narrow, c.requires.1.drawable.few)
-
-pub slice_bounds-clear-end-2 : goal.slice_bounds-clear-end-2
-slice_bounds-clear-end-2 c = sym (length-take-le _ _ c.requires.1.file_fits)
-
-pub slice_bounds-clear-end-4 : goal.slice_bounds-clear-end-4
-slice_bounds-clear-end-4 c = sym (length-take-le _ _ c.requires.1.marks_fit)
 
 pub peel-end-requires : goal.peel-end-requires
 peel-end-requires c =

@@ -1,6 +1,5 @@
--- What the search leaves. Assumes nothing.
+-- `pass`: a turn is one record's, by `RestoreLoops`. Assumes nothing.
 use mathlib.Core.Path.{refl, ap, ◌∙◌}
-use Prim.Native.Nat.{◌-◌}
 use native.Mathlib.Omega.{arith}
 use lib.ListN.{length}
 use Rattle.decoder.proofs.RecordsAt.{record-fits, record-length}

@@ -1,6 +1,5 @@
--- What the search leaves. Assumes nothing.
+-- `peel`: a turn is one pass, by `RestoreLoops`. Assumes nothing.
 use mathlib.Core.Path.{◌∙◌}
-use Prim.Native.Nat.{◌-◌}
 use native.Mathlib.Omega.{arith}
 use Rattle.decoder.proofs.RestoreLoops.{room-stays, peeling-begins, few_passes, few-present, peeling-ends, peeling-turns}
 use Rattle.decoder.proofs.restorer.peel.Goals as goal

@@ -1,6 +1,4 @@
 -- `room_refusal` meets its contract: each test is a question's, in their order. Assumes nothing.
-use native.Mathlib.Nat.{mul-le-mul_left}
-use native.Mathlib.Omega.{arith}
 use borrow.Author.Tests.{le-leb, lt-leb}
 use Rattle.decoder.specs.Restorer.{room_refusal}
 use Rattle.decoder.proofs.restorer.room_refusal.Goals as goal

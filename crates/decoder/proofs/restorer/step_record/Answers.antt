@@ -1,7 +1,5 @@
 -- `step_record` meets its contract: one law for each way a turn can go. Assumes nothing.
-use mathlib.Core.Path.{◌≡◌, sym, ap, ◌∙◌}
-use mathlib.Core.Logic.{⊎_elim}
-use Prim.Native.Nat.{ℕ}
+use mathlib.Core.Path.{sym, ap, ◌∙◌}
 use native.Mathlib.Omega.{arith}
 use lib.ListN.{length}
 use lib.Seq.{length-take-le}
@@ -16,9 +14,6 @@ draw_record-drawn-requires c = let parts = parts-fit c.args.l in search rules
 pub returns-in_default : goal.returns-in_default
 returns-in_default c =
     turn-none _ _ _ c.args.bytes.now _ _ _ _ _ c.requires.0 c.requires.1 c.draw_record-drawn.ensures c.in_default.not-One
-
-pub payload_in-requires : goal.payload_in-requires
-payload_in-requires c = (c.requires.1.narrow, omega arith)
 
 pub slice_bounds-fill-end : goal.slice_bounds-fill-end
 slice_bounds-fill-end c =

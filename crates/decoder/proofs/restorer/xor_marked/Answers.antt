@@ -1,7 +1,7 @@
--- What the search leaves. Assumes nothing.
+-- `xor_marked`: a turn XORs a marked segment in, and passes an unmarked one over, by `MarkedXor`. Assumes nothing.
 use mathlib.Core.Path.{◌≡◌, ap, ◌∙◌}
 use mathlib.Core.List.{List, ◌∷◌, ◌++◌, []}
-use Prim.Native.Nat.{ℕ, ◌+◌, ◌-◌, ◌<◌}
+use Prim.Native.Nat.{ℕ, ◌+◌, ◌<◌}
 use native.Mathlib.Numerals.{add-one}
 use native.Mathlib.Omega.{arith}
 use lib.ListN.{length, get_or, take}
@@ -20,9 +20,6 @@ pub loop-i-init : goal.loop-i-init
 loop-i-init c =
     let x = c.args in
     (search rules, search rules, c.xor_into.ensures ∙ xor-none x.l x.file.now x.marks.now x.stored.now c.requires.1 c.requires.0)
-
-pub overflow_cast-m : goal.overflow_cast-m
-overflow_cast-m c = omega (arith, c.type_inv.list c.loop-i.i)
 
 pub bounds-marks-m : goal.bounds-marks-m
 unfolding AllBelow
