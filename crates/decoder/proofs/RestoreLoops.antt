@@ -49,8 +49,8 @@ pub record Passing (weights : List ℕ) (K L count : ℕ) (store file₀ marks�
   pub list-size : length list ≡ length list₀
 
 module _ (weights : List ℕ) (K L count : ℕ) (store file₀ marks₀ list₀ : List ℕ) where
-  pub passing_begins : (zeroth : ℕ) → zeroth ≡ 0 → Passing weights K L count store file₀ marks₀ list₀ file₀ marks₀ list₀ zeroth 0
-  passing_begins zeroth z = record {
+  pub passing_begins : (none : ℕ) → none ≡ 0 → Passing weights K L count store file₀ marks₀ list₀ file₀ marks₀ list₀ none 0
+  passing_begins none z = record {
     at_most = omega arith;
     goes_on = ap (λ (ds : List Droplet). pass L ds (record { file = file₀; marks = marks₀ })) (droplets-all weights K L count store);
     counted = omega arith;

@@ -1,15 +1,11 @@
--- What the search leaves. Assumes nothing.
-use mathlib.Core.Path.{refl, sym, ◌∙◌}
-use Prim.Native.Nat.{ℕ, ◌-◌, ◌≤◌, ◌<◌}
+-- `clear`: each turn writes one 0 more, and at the end all are 0. Assumes nothing.
+use mathlib.Core.Path.{sym, ◌∙◌}
+use Prim.Native.Nat.{ℕ, ◌≤◌, ◌<◌}
 use native.Mathlib.Omega.{arith}
 use lib.ListN.{length, replicate, length-set, length-replicate, get_or-replicate}
 use lib.Seq.{take_all}
 use Rattle.decoder.proofs.WrittenParts.{written-more, written_all}
-use borrow.Author.Rules.{rules}
 use Rattle.decoder.proofs.restorer.clear.Goals as goal
-
-pub loop-i-init : goal.loop-i-init
-loop-i-init c = (search rules, refl, refl)
 
 pub loop-i-preserved : goal.loop-i-preserved
 loop-i-preserved c =

@@ -9,25 +9,21 @@ draw_front-requires c = (search rules, search rules, search rules, search rules,
 
 pub returns-then-d-le16 : goal.returns-then-d-le16
 returns-then-d-le16 c =
-    let drawn = c in
-    let x = drawn.args in
-    whole-front x.k x.d x.state x.list-1.now x.marks.now _ _ drawn.draw_front.ensures
+    let x = c.args in
+    whole-front x.k x.d x.state x.list.now x.marks.now _ _ c.draw_front.ensures
 
 pub draw_front-requires-2 : goal.draw_front-requires-2
 draw_front-requires-2 c = (search rules, search rules, search rules, search rules, search rules, marked-none 0)
 
 pub returns-in-Several : goal.returns-in-Several
 returns-in-Several c =
-    let drawn = c in
-    let x = drawn.args in
-    whole-several x.k x.d x.state x.list-1.now x.marks.now _ 16 _ c.enum_told-1.given.1 drawn.draw_front-2.ensures
+    let x = c.args in
+    whole-several x.k x.d x.state x.list.now x.marks.now _ 16 _ c.in-Several.is c.draw_front-2.ensures
 
 pub draw_front-requires-3 : goal.draw_front-requires-3
 draw_front-requires-3 c = (search rules, search rules, search rules, search rules, search rules, marked-none 2048)
 
 pub returns : goal.returns
 returns c =
-    let again = c in
-    let drawn = again in
-    let x = drawn.args in
-    whole_again x.k x.d x.state x.list-1.now x.marks.now _ _ _ drawn.draw_front-2.ensures.rest again.draw_front-3.ensures
+    let x = c.args in
+    whole_again x.k x.d x.state x.list.now x.marks.now _ _ _ c.draw_front-2.ensures.rest c.draw_front-3.ensures

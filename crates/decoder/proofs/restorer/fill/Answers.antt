@@ -3,7 +3,7 @@ use mathlib.Core.Path.{◌≡◌, ap, ◌∙◌}
 use mathlib.Core.List.{List, [], ◌++◌, append-nil}
 use Prim.Native.Nat.{ℕ, ◌+◌, ◌-◌, ◌*◌, ◌≤◌}
 use native.Mathlib.Omega.{arith}
-use lib.ListN.{length, take, drop, set, length-take, length-drop, drop_of_length-le}
+use lib.ListN.{length, take, drop, set, length-take, drop_of_length-le}
 use lib.Seq.{drop-drop}
 use Rattle.field.specs.Bytes.{padded}
 use Rattle.field.proofs.ByteLists.{take-padded}
@@ -21,12 +21,6 @@ part-written file p part q a L size fits e w =
     let none : drop L (take L (drop a file)) ≡ [] = drop_of_length-le (take L (drop a file)) {i = L} (rw length-take (omega arith)) in
     let written : part ≡ q = w ∙ rw (n, front, size, none, append-nil) in
     rw (written, n, drop-drop L a file)
-
-pub slice_bounds-copy-end : goal.slice_bounds-copy-end
-slice_bounds-copy-end c = simp length-take (omega arith)
-
-pub copy-requires : goal.copy-requires
-copy-requires c = simp (length-take, length-drop) (omega arith)
 
 pub returns : goal.returns
 unfolding filled

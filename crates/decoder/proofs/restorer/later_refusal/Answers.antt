@@ -1,12 +1,7 @@
 -- `later_refusal` meets its contract: each test is a question's, in their order. Assumes nothing.
 use mathlib.Core.Path.{sym, ◌∙◌}
-use borrow.Author.Tests.{leb-true}
 use Rattle.decoder.specs.Restorer.{later_refusal}
 use Rattle.decoder.proofs.restorer.later_refusal.Goals as goal
-
-pub has_seed_zero-requires : goal.has_seed_zero-requires
-has_seed_zero-requires c =
-    (c.requires.0, leb-true _ _ (sym c.count_fits.ensures ∙ c.if-count_fits.true))
 
 pub returns-then-has_seed_zero : goal.returns-then-has_seed_zero
 unfolding later_refusal

@@ -9,12 +9,12 @@ returns-then-mark-eq1 c = rw (eq-eqb _ _ c.if-mark-eq1.true)
 
 pub returns-in-None : goal.returns-in-None
 unfolding looked_at
-returns-in-None c = rw (ne_eqb _ _ c.if-mark-eq1.false, c.enum_told-1.given.1)
+returns-in-None c = rw (ne_eqb _ _ c.if-mark-eq1.false, c.in-None.is)
 
 pub returns-in-One : goal.returns-in-One
 unfolding looked_at
-returns-in-One c = rw (ne_eqb _ _ c.if-mark-eq1.false, c.enum_told-in-One-1.given.1)
+returns-in-One c = rw (ne_eqb _ _ c.if-mark-eq1.false, c.in-One.is)
 
 pub returns-in-Several : goal.returns-in-Several
 unfolding looked_at
-returns-in-Several c = rw (ne_eqb _ _ c.if-mark-eq1.false, c.enum_told-in-Several-1.given.1)
+returns-in-Several c = rw (ne_eqb _ _ c.if-mark-eq1.false, c.in-Several.is)

@@ -1,5 +1,5 @@
 -- `make_sheet` meets its contract: what is cleared, peeled and counted is the definition's sheet. Assumes nothing.
-use mathlib.Core.Path.{◌≡◌, refl, sym, ap, ◌∙◌}
+use mathlib.Core.Path.{◌≡◌, refl, ap, ◌∙◌}
 use mathlib.Core.List.{List, ◌++◌}
 use Prim.Native.Nat.{ℕ, suc, ◌*◌, ◌≤◌}
 use native.Mathlib.Nat.{mul-le-mul_left}
@@ -31,7 +31,7 @@ module _ (K L : ℕ) (file marks f m : List ℕ) (file_fits : K * L ≤ length f
   start-marks = rw (none, length-take-le K marks marks_fit) (simp (length-append, length-replicate, length-drop) (omega arith))
 
   start-present : present K (m ++ drop K marks) ≡ 0
-  start-present = ap (λ (st : State). present K st.marks-1) start_is ∙ cleared-present K L file marks
+  start-present = ap (λ (st : State). present K st.marks) start_is ∙ cleared-present K L file marks
 
   module _ (weights : List ℕ) (ds : List Droplet) (list file' marks' between list' : List ℕ) (p : Peeling) (n : ℕ)
       (ended : Ended K weights (peel (suc K) K L ds 0 start) list file' marks' between p)
@@ -50,44 +50,36 @@ module _ (K L : ℕ) (file marks f m : List ℕ) (file_fits : K * L ≤ length f
     }
 
 pub overflow_mul-n : goal.overflow_mul-n
-overflow_mul-n c =
-    let x = c in
-    omega (arith, mul-le-mul_left x.args.plan.segments x.requires.1.narrow, x.requires.1.drawable.few)
-
-pub slice_bounds-clear-end-2 : goal.slice_bounds-clear-end-2
-slice_bounds-clear-end-2 c = sym (length-take-le _ _ c.requires.1.file_fits)
-
-pub slice_bounds-clear-end-4 : goal.slice_bounds-clear-end-4
-slice_bounds-clear-end-4 c = sym (length-take-le _ _ c.requires.1.marks_fit)
+overflow_mul-n c = omega (arith, mul-le-mul_left c.args.plan.segments c.requires.1.narrow, c.requires.1.drawable.few)
 
 pub peel-end-requires : goal.peel-end-requires
 peel-end-requires c =
-    let x = c in
-    let room = x.requires.1 in
+    let x = c.args in
+    let room = c.requires.1 in
     let zeros = c.clear.ensures in
     let none = c.clear-2.ensures in (
-      x.requires.0,
-      room-stays _ _ _ room (start-file _ _ _ x.args.marks.now _ _ room.file_fits room.marks_fit zeros none)
-          (start-marks _ x.args.l x.args.file.now _ _ _ room.file_fits room.marks_fit zeros none) refl,
-      start-present _ x.args.l x.args.file.now x.args.marks.now _ _ room.file_fits room.marks_fit zeros none,
+      c.requires.0,
+      room-stays _ _ _ room (start-file _ _ _ x.marks.now _ _ room.file_fits room.marks_fit zeros none)
+          (start-marks _ x.l x.file.now _ _ _ room.file_fits room.marks_fit zeros none) refl,
+      start-present _ x.l x.file.now x.marks.now _ _ room.file_fits room.marks_fit zeros none,
     )
 
 pub count_contradictions-contradictions-requires : goal.count_contradictions-contradictions-requires
 count_contradictions-contradictions-requires c =
-    let x = c in
-    let room = x.requires.1 in
+    let x = c.args in
+    let room = c.requires.1 in
     let zeros = c.clear.ensures in
     let none = c.clear-2.ensures in
     let kept = c.peel-end.auto in (
-      x.requires.0,
-      room-stays _ _ _ room (kept.1.1.1.1.1.0 ∙ start-file _ _ _ x.args.marks.now _ _ room.file_fits room.marks_fit zeros none)
-          (kept.1.1.1.1.1.1.0 ∙ start-marks _ x.args.l x.args.file.now _ _ _ room.file_fits room.marks_fit zeros none) kept.1.1.1.1.1.1.1.0,
+      c.requires.0,
+      room-stays _ _ _ room (kept.file ∙ start-file _ _ _ x.marks.now _ _ room.file_fits room.marks_fit zeros none)
+          (kept.marks ∙ start-marks _ x.l x.file.now _ _ _ room.file_fits room.marks_fit zeros none) kept.list,
     )
 
 pub returns : goal.returns
 returns c =
-    let x = c in
-    let room = x.requires.1 in
+    let x = c.args in
+    let room = c.requires.1 in
     let last = c.count_contradictions-contradictions.ensures in
-    known _ x.args.l x.args.file.now x.args.marks.now _ _ room.file_fits room.marks_fit c.clear.ensures c.clear-2.ensures
+    known _ x.l x.file.now x.marks.now _ _ room.file_fits room.marks_fit c.clear.ensures c.clear-2.ensures
     _ _ _ _ _ _ _ _ _ c.peel-end.ensures last.0 last.1

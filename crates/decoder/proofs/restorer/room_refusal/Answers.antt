@@ -1,12 +1,7 @@
 -- `room_refusal` meets its contract: each test is a question's, in their order. Assumes nothing.
-use native.Mathlib.Nat.{mul-le-mul_left}
-use native.Mathlib.Omega.{arith}
 use borrow.Author.Tests.{le-leb, lt-leb}
 use Rattle.decoder.specs.Restorer.{room_refusal}
 use Rattle.decoder.proofs.restorer.room_refusal.Goals as goal
-
-pub overflow-mul-if1 : goal.overflow-mul-if1
-overflow-mul-if1 c = omega (arith, mul-le-mul_left c.args.plan.segments c.requires.0)
 
 pub returns-then-file_len-k : goal.returns-then-file_len-k
 unfolding room_refusal

@@ -1,7 +1,5 @@
 -- `step_record` meets its contract: one law for each way a turn can go. Assumes nothing.
-use mathlib.Core.Path.{◌≡◌, sym, ap, ◌∙◌}
-use mathlib.Core.Logic.{⊎_elim}
-use Prim.Native.Nat.{ℕ}
+use mathlib.Core.Path.{sym, ap, ◌∙◌}
 use native.Mathlib.Omega.{arith}
 use lib.ListN.{length}
 use lib.Seq.{length-take-le}
@@ -15,47 +13,31 @@ draw_record-drawn-requires c = let parts = parts-fit c.args.l in search rules
 
 pub returns-in_default : goal.returns-in_default
 returns-in_default c =
-    let d = c in
-    let x = d in
-    turn-none _ _ _ x.args.bytes.now _ _ _ _ _ x.requires.0 x.requires.1 d.draw_record-drawn.ensures
-    (λ s e. ⊎_elim (λ (h : ◌≡◌ {A = ℕ} 1 0). omega arith) (λ (h : ◌≡◌ {A = ℕ} 1 2). omega arith) (rw e at c.in_default.keys2))
-
-pub payload_in-requires : goal.payload_in-requires
-payload_in-requires c =
-    let x = c in
-    (x.requires.1.narrow, omega arith)
+    turn-none _ _ _ c.args.bytes.now _ _ _ _ _ c.requires.0 c.requires.1 c.draw_record-drawn.ensures c.in_default.not-One
 
 pub slice_bounds-fill-end : goal.slice_bounds-fill-end
 slice_bounds-fill-end c =
-    let d = c in
-    let x = d in
-    let places = degree-places _ _ _ x.args.bytes.now _ _ _ _ _ x.requires.0 x.requires.1 d.draw_record-drawn.ensures in
+    let places = degree-places _ _ _ c.args.bytes.now _ _ _ _ _ c.requires.0 c.requires.1 c.draw_record-drawn.ensures in
     search rules
 
 pub slice_bounds-fill-end-2 : goal.slice_bounds-fill-end-2
 slice_bounds-fill-end-2 c =
-    let d = c in
-    let x = d in
-    let places = degree-places _ _ _ x.args.bytes.now _ _ _ _ _ x.requires.0 x.requires.1 d.draw_record-drawn.ensures in
+    let places = degree-places _ _ _ c.args.bytes.now _ _ _ _ _ c.requires.0 c.requires.1 c.draw_record-drawn.ensures in
     sym (length-take-le _ _ (omega arith))
 
 pub fill-requires : goal.fill-requires
 fill-requires c =
-    let d = c in
-    let x = d in
-    let bytes = x.args.bytes.now in
-    let seen = d.draw_record-drawn.ensures in
-    let lone = c.unmarked-1.given.1 in (
-      x.requires.1.narrow,
-      ap length c.payload_in.ensures ∙ stored-size _ _ _ bytes _ _ _ _ _ x.requires.0 x.requires.1 seen,
-      fill-list _ _ _ bytes _ _ _ _ _ x.requires.0 x.requires.1 seen _ lone,
-      fill-place _ _ _ bytes _ _ _ _ _ x.requires.0 x.requires.1 seen _ lone,
-      fill-mark _ _ _ bytes _ _ _ _ _ x.requires.0 x.requires.1 seen _ lone,
+    let bytes = c.args.bytes.now in
+    let seen = c.draw_record-drawn.ensures in
+    let lone = c.in-One.is in (
+      c.requires.1.narrow,
+      ap length c.payload_in.ensures ∙ stored-size _ _ _ bytes _ _ _ _ _ c.requires.0 c.requires.1 seen,
+      fill-list _ _ _ bytes _ _ _ _ _ c.requires.0 c.requires.1 seen _ lone,
+      fill-place _ _ _ bytes _ _ _ _ _ c.requires.0 c.requires.1 seen _ lone,
+      fill-mark _ _ _ bytes _ _ _ _ _ c.requires.0 c.requires.1 seen _ lone,
     )
 
 pub returns : goal.returns
 returns c =
-    let d = c in
-    let x = d in
-    turn_one _ _ _ x.args.bytes.now _ _ _ _ _ x.requires.0 x.requires.1 d.draw_record-drawn.ensures _ c.unmarked-1.given.1 _ _
+    turn_one _ _ _ c.args.bytes.now _ _ _ _ _ c.requires.0 c.requires.1 c.draw_record-drawn.ensures _ c.in-One.is _ _
     (rw c.payload_in.ensures at c.fill.ensures)

@@ -1,8 +1,7 @@
--- What the search leaves. Assumes nothing.
+-- `xor_marked`: a turn XORs a marked segment in, and passes an unmarked one over, by `MarkedXor`. Assumes nothing.
 use mathlib.Core.Path.{◌≡◌, ap, ◌∙◌}
 use mathlib.Core.List.{List, ◌∷◌, ◌++◌, []}
-use mathlib.Core.Logic.{⊎_elim}
-use Prim.Native.Nat.{ℕ, ◌+◌, ◌-◌, ◌<◌}
+use Prim.Native.Nat.{ℕ, ◌+◌, ◌<◌}
 use native.Mathlib.Numerals.{add-one}
 use native.Mathlib.Omega.{arith}
 use lib.ListN.{length, get_or, take}
@@ -15,41 +14,40 @@ use Rattle.decoder.specs.Loops.{AllBelow}
 use Rattle.decoder.proofs.MarkedXor.{xor-none, xor-marked, xor-unmarked}
 use borrow.Author.Rules.{rules}
 use Rattle.decoder.proofs.restorer.xor_marked.Goals as goal
-
--- the front with one segment more
-snoc : (c : goal.In-loop-i)
-    → (let list = c.before.before.before.before.before.before.before.before.before.args.list.now in
-    let i = c.before.loop-i.i in
-    take (i + 1) list ≡ take i list ++ (get_or list i 0 ∷ []))
-snoc c = rw add-one (take-suc _ _ 0 c.loop-i-test.true)
+use Rattle.decoder.proofs.restorer.xor_marked.Goals.{then-marks-m-eq1, else-marks-m-eq1}
 
 pub loop-i-init : goal.loop-i-init
 loop-i-init c =
-    let x = c.before.before.before.before.before.before.before in
-    (search rules, search rules, c.before.xor_into.ensures ∙ xor-none x.args.l x.args.file.now x.args.marks.now x.args.stored.now x.requires.1 x.requires.0)
-
-pub overflow_cast-m : goal.overflow_cast-m
-overflow_cast-m c = omega (arith, c.shared_slice_known-in-loop-i-1.given c.before.before.loop-i.i)
+    let x = c.args in
+    (search rules, search rules, c.xor_into.ensures ∙ xor-none x.l x.file.now x.marks.now x.stored.now c.requires.1 c.requires.0)
 
 pub bounds-marks-m : goal.bounds-marks-m
 unfolding AllBelow
-bounds-marks-m c =
-    let x = c.before.before.before.before.before.before.before.before.before.before.before in
-    all-at (λ s. s < length x.args.marks.now) x.args.list.now 0 x.requires.2 _ (omega arith)
+bounds-marks-m c = all-at (λ s. s < length c.args.marks.now) c.args.list.now 0 c.requires.2 _ (omega arith)
 
 pub loop-i-preserved : goal.loop-i-preserved
 loop-i-preserved c =
-    let l = c.before.before.before in
-    let x = l.before.before.before.before.before.before.before.before.before in
-    let more = snoc l in
-    let now = l.before.loop-i.invariant.2 in
-    ⊎_elim
-    (λ w. (search rules, ap length w.4 ∙ w.2.kept.0 ∙ l.before.loop-i.invariant.1, rw more (w.4 ∙ w.2.ensures ∙ xor-marked x.args.l x.args.file.now x.args.marks.now x.args.stored.now x.requires.1 _ _ _ now w.0.taken)))
-    (λ w. (search rules, ap length w.1 ∙ l.before.loop-i.invariant.1, rw more (w.1 ∙ xor-unmarked x.args.l x.args.file.now x.args.marks.now x.args.stored.now x.requires.1 _ _ _ now w.0.left)))
-    c.if-marks-m-eq1.branch
+    let x = c.args in
+    let list = x.list.now in
+    let i = c.loop-i.i in
+    let more : take (i + 1) list ≡ take i list ++ (get_or list i 0 ∷ []) = rw add-one (take-suc _ _ 0 c.loop-i-test.true) in
+    let now = c.loop-i.invariant.2 in
+    elim c.if-marks-m-eq1.branch [
+      | then-marks-m-eq1 w ↦ (
+        search rules,
+        ap length w.p-is ∙ w.xor_segment.auto.p ∙ c.loop-i.invariant.1,
+        rw more
+            (w.p-is ∙ w.xor_segment.ensures ∙ xor-marked x.l x.file.now x.marks.now x.stored.now c.requires.1 _ _ _ now w.if-marks-m-eq1.true),
+      )
+      | else-marks-m-eq1 w ↦ (
+        search rules,
+        ap length w.p-is ∙ c.loop-i.invariant.1,
+        rw more (w.p-is ∙ xor-unmarked x.l x.file.now x.marks.now x.stored.now c.requires.1 _ _ _ now w.if-marks-m-eq1.false),
+      )
+    ]
 
 pub returns : goal.returns
 returns c =
-    let x = c.before.before.before.before.before.before.before.before.before.args in
-    c.before.loop-i.invariant.2
+    let x = c.args in
+    c.loop-i.invariant.2
     ∙ ap (λ (xs : List ℕ). padded 64 (xor_lists x.stored.now (payload x.l x.file.now (known x.marks.now xs)))) (take_all _ x.list.now c.loop-i-test.false)
