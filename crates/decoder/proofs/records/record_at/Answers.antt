@@ -1,8 +1,7 @@
 -- `record_at` meets its contract: it lends the definition's part. Assumes nothing.
 use mathlib.Core.Path.{◌≡◌}
-use Prim.Native.Nat.{◌+◌, ◌-◌, ◌*◌, ◌≤◌}
+use Prim.Native.Nat.{◌+◌, ◌-◌, ◌*◌}
 use native.Mathlib.Omega.{arith}
-use lib.ListN.{length}
 use Rattle.decoder.specs.Store.{record_bytes}
 use Rattle.decoder.specs.Loops.{record_at}
 use Rattle.decoder.proofs.records.record_at.Goals as goal

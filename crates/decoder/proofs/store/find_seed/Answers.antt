@@ -5,7 +5,6 @@ use mathlib.Core.List.{List}
 use Prim.Native.Nat.{ℕ, suc, ◌+◌, ◌-◌, ◌*◌, ◌<◌, ◌≤◌}
 use native.Mathlib.Nat.{suc-mul}
 use native.Mathlib.Omega.{arith}
-use borrow.Author.Rules.{rules}
 use borrow.Author.Tests.{eq-eqb, ne_eqb}
 use lib.Dec.{eqb}
 use lib.ListN.{length, take, drop, length-drop}
@@ -63,34 +62,36 @@ module _ (L count seed : ℕ) (store : List ℕ) (width : ℕ) where
         };
       }
 
-  -- the turn at a record where there are more than one, and at the next one, if the first is not of the seed; `read` is the seed that
-  -- the code reads
-  first : (at left : ℕ) → 0 < left → Passed L count seed store width at left → Turn at (left - 1)
-  first at left some p = turn at left (left - 1) (omega arith) p
-
-  second : (at left read : ℕ) → 1 < left → Passed L count seed store width at left
-      → read ≡ record_seed (take (length store - at) (drop at store)) → (read ≡ seed → ⊥) → Turn (at + width) (left - 2)
-  second at left read more p e other =
-      let seen : read ≡ record_seed (drop at store) = rw rest-whole at e in
-      turn (at + width) (left - 1) (left - 2) (omega arith) ((first at left (omega arith) p).miss (λ q. other (seen ∙ q)))
-
-  -- a record of the seed
-  hits : (at next read : ℕ) → Turn at next → read ≡ record_seed (take (length store - at) (drop at store)) → read ≡ seed → Standing L count store seed at
-  hits at next read t e same =
-      let seen : read ≡ record_seed (drop at store) = rw rest-whole at e in
-      t.hit (sym seen ∙ same)
-
-  -- a record of another seed
-  misses : (at next read : ℕ) → Turn at next → read ≡ record_seed (take (length store - at) (drop at store)) → (read ≡ seed → ⊥)
-      → Passed L count seed store width (at + width) next
-  misses at next read t e other =
-      let seen : read ≡ record_seed (drop at store) = rw rest-whole at e in
-      t.miss (λ q. other (seen ∙ q))
-
   -- none is left
   none : (at left : ℕ) → left ≡ 0 → Passed L count seed store width at left → sought L count seed store width 0 count ≡ absent
   unfolding records find_seed
   none at left e p = p.same ∙ rw e
+
+-- the same, by the seed that the code reads at a place, `read`
+module _ {L count seed : ℕ} {store : List ℕ} {width : ℕ} where
+  -- the record from a place on is of the seed
+  hits : {at next read : ℕ} → Turn L count seed store width at next → read ≡ record_seed (take (length store - at) (drop at store)) → read ≡ seed
+      → Standing L count store seed at
+  hits {at = at} {read = read} t e same =
+      let seen : read ≡ record_seed (drop at store) = rw rest-whole at e in
+      t.hit (sym seen ∙ same)
+
+  -- it is not
+  misses : {at next read : ℕ} → Turn L count seed store width at next → read ≡ record_seed (take (length store - at) (drop at store)) → (read ≡ seed → ⊥)
+      → Passed L count seed store width (at + width) next
+  misses {at = at} {read = read} t e other =
+      let seen : read ≡ record_seed (drop at store) = rw rest-whole at e in
+      t.miss (λ q. other (seen ∙ q))
+
+  -- the turn at the next record
+  first : {at left : ℕ} → Passed L count seed store width at left → 0 < left → Turn L count seed store width at (left - 1)
+  first {at = at} {left = left} p some = turn L count seed store width at left (left - 1) (omega arith) p
+
+  -- and at the one behind it, if the next is not of the seed
+  second : {at left read : ℕ} → Passed L count seed store width at left → 1 < left
+      → read ≡ record_seed (take (length store - at) (drop at store)) → (read ≡ seed → ⊥) → Turn L count seed store width (at + width) (left - 2)
+  second {at = at} {left = left} p more e other =
+      turn L count seed store width (at + width) (left - 1) (left - 2) (omega arith) (misses (first p (omega arith)) e other)
 
 pub loop-left-init : goal.loop-left-init
 loop-left-init c =
@@ -98,44 +99,52 @@ loop-left-init c =
     record { n = 0; wide = c.record_bytes-width.ensures; place = omega arith; fits = rw c.record_bytes-width.ensures (omega arith); same = behind-none _ }
 
 pub seed_of-requires : goal.seed_of-requires
-seed_of-requires c = let now = first _ _ _ _ _ _ c.loop-left.left (omega arith) c.loop-left.invariant in rw rest-whole (rw length-drop (omega (arith, now.inside)))
+seed_of-requires c =
+    let now = first c.loop-left.invariant (omega arith) in
+    rw rest-whole (rw length-drop (omega (arith, now.inside)))
 
 pub returns-then-seed_of-seed : goal.returns-then-seed_of-seed
 returns-then-seed_of-seed c =
-    let now = first _ _ _ _ _ _ c.loop-left.left (omega arith) c.loop-left.invariant in
-    hits _ _ _ _ _ _ _ _ now c.seed_of.ensures c.if-seed_of-seed.true
+    let now = first c.loop-left.invariant (omega arith) in
+    hits now c.seed_of.ensures c.if-seed_of-seed.true
 
 pub overflow_add-next : goal.overflow_add-next
-overflow_add-next c = let now = first _ _ _ _ _ _ c.loop-left.left (omega arith) c.loop-left.invariant in omega (arith, now.inside)
+overflow_add-next c = let now = first c.loop-left.invariant (omega arith) in omega (arith, now.inside)
 
 pub seed_of-requires-in-loop-left : goal.seed_of-requires-in-loop-left
-seed_of-requires-in-loop-left c = let next = second _ _ _ _ _ _ _ _ c.loop-left-test.true c.loop-left.invariant c.seed_of.ensures c.if-seed_of-seed.false in rw rest-whole (rw length-drop (omega (arith, next.inside)))
+seed_of-requires-in-loop-left c =
+    let next = second c.loop-left.invariant c.loop-left-test.true c.seed_of.ensures c.if-seed_of-seed.false in
+    rw rest-whole (rw length-drop (omega (arith, next.inside)))
 
 pub returns-then-seed_of-seed-2 : goal.returns-then-seed_of-seed-2
 returns-then-seed_of-seed-2 c =
-    let next = second _ _ _ _ _ _ _ _ c.loop-left-test.true c.loop-left.invariant c.seed_of.ensures c.if-seed_of-seed.false in
-    hits _ _ _ _ _ _ _ _ next c.seed_of-in-loop-left.ensures c.if-seed_of-seed-2.true
+    let next = second c.loop-left.invariant c.loop-left-test.true c.seed_of.ensures c.if-seed_of-seed.false in
+    hits next c.seed_of-in-loop-left.ensures c.if-seed_of-seed-2.true
 
 pub overflow_add-at : goal.overflow_add-at
-overflow_add-at c = let next = second _ _ _ _ _ _ _ _ c.loop-left-test.true c.loop-left.invariant c.seed_of.ensures c.if-seed_of-seed.false in omega (arith, next.inside)
+overflow_add-at c =
+    let next = second c.loop-left.invariant c.loop-left-test.true c.seed_of.ensures c.if-seed_of-seed.false in
+    omega (arith, next.inside)
 
 pub loop-left-preserved : goal.loop-left-preserved
 loop-left-preserved c =
-    let next = second _ _ _ _ _ _ _ _ c.loop-left-test.true c.loop-left.invariant c.seed_of.ensures c.if-seed_of-seed.false in
-    misses _ _ _ _ _ _ _ _ next c.seed_of-in-loop-left.ensures c.if-seed_of-seed-2.false
+    let next = second c.loop-left.invariant c.loop-left-test.true c.seed_of.ensures c.if-seed_of-seed.false in
+    misses next c.seed_of-in-loop-left.ensures c.if-seed_of-seed-2.false
 
 pub seed_of-requires-then-left-eq1 : goal.seed_of-requires-then-left-eq1
-seed_of-requires-then-left-eq1 c = let now = first _ _ _ _ _ _ c.loop-left.left (omega arith) c.loop-left.invariant in rw rest-whole (rw length-drop (omega (arith, now.inside)))
+seed_of-requires-then-left-eq1 c =
+    let now = first c.loop-left.invariant (omega arith) in
+    rw rest-whole (rw length-drop (omega (arith, now.inside)))
 
 pub returns-then-seed_of-seed-3 : goal.returns-then-seed_of-seed-3
 returns-then-seed_of-seed-3 c =
-    let now = first _ _ _ _ _ _ c.loop-left.left (omega arith) c.loop-left.invariant in
-    hits _ _ _ _ _ _ _ _ now c.seed_of-then-left-eq1.ensures c.if-seed_of-seed-3.true
+    let now = first c.loop-left.invariant (omega arith) in
+    hits now c.seed_of-then-left-eq1.ensures c.if-seed_of-seed-3.true
 
 pub returns-else-seed_of-seed-3 : goal.returns-else-seed_of-seed-3
 returns-else-seed_of-seed-3 c =
-    let now = first _ _ _ _ _ _ c.loop-left.left (omega arith) c.loop-left.invariant in
-    none _ _ _ _ _ _ _ (omega arith) (misses _ _ _ _ _ _ _ _ now c.seed_of-then-left-eq1.ensures c.if-seed_of-seed-3.false)
+    let now = first c.loop-left.invariant (omega arith) in
+    none _ _ _ _ _ _ _ (omega arith) (misses now c.seed_of-then-left-eq1.ensures c.if-seed_of-seed-3.false)
 
 pub returns-else-left-eq1 : goal.returns-else-left-eq1
 returns-else-left-eq1 c = none _ _ _ _ _ _ c.loop-left.left (omega arith) c.loop-left.invariant

@@ -3,7 +3,7 @@
 use mathlib.Core.Path.{◌≡◌, refl, sym, ap, ◌∙◌}
 use mathlib.Core.Bool.{Bool, true, false, cond}
 use mathlib.Core.List.{List}
-use Prim.Native.Nat.{ℕ, suc, ◌+◌, ◌-◌, ◌≤◌}
+use Prim.Native.Nat.{ℕ, suc, ◌-◌, ◌≤◌}
 use native.Mathlib.Omega.{arith}
 use borrow.Author.Tests.{not-true, not-false}
 use lib.ListN.{length, take, drop, length-drop}
@@ -94,7 +94,8 @@ module _ (L : ℕ) (buffer : List ℕ) (count : ℕ) (r : LegalRead) where
       second : (like : Bool) → like ≡ same_bytes (take (length r.payload) p) r.payload → store_record L buffer count r ≡ decided at false like
       second like test =
           let payload = lent L count buffer p r.seed at here e in
-          let whole : take (length r.payload) p ≡ record_payload L (drop at buffer) = take_all (length r.payload) p (omega (arith, payload.1)) ∙ payload.0 in
+          let whole : take (length r.payload) p ≡ record_payload L (drop at buffer)
+          = take_all (length r.payload) p (omega (arith, payload.1)) ∙ payload.0 in
           let by : like ≡ same at = rw whole at test in
           rw (first false stands, by)
 
@@ -143,11 +144,13 @@ count_again-requires-then-starts_with c = (c.requires.short, c.in-At.ensures.wit
 
 pub returns-then-count_again-2 : goal.returns-then-count_again-2
 returns-then-count_again-2 c =
-    repeats _ _ _ _ _ _ c.in-At.ensures c.state_in.ensures c.if-takes_over.ensures refl _ c.payload_in.ensures _ c.if-starts_with.ensures c.if-count_again-2.ensures
+    repeats _ _ _ _ _ _ c.in-At.ensures c.state_in.ensures c.if-takes_over.ensures refl _ c.payload_in.ensures _ c.if-starts_with.ensures
+    c.if-count_again-2.ensures
 
 pub returns-then-starts_with : goal.returns-then-starts_with
 returns-then-starts_with c =
-    full_repeat _ _ _ _ _ _ c.in-At.ensures c.state_in.ensures c.if-takes_over.ensures refl _ c.payload_in.ensures _ c.if-starts_with.ensures c.if-count_again-2.ensures
+    full_repeat _ _ _ _ _ _ c.in-At.ensures c.state_in.ensures c.if-takes_over.ensures refl _ c.payload_in.ensures _ c.if-starts_with.ensures
+    c.if-count_again-2.ensures
 
 pub returns : goal.returns
 returns c = differs _ _ _ _ _ _ c.in-At.ensures c.state_in.ensures c.if-takes_over.ensures refl _ c.payload_in.ensures c.if-starts_with.ensures
