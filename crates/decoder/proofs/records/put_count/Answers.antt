@@ -17,8 +17,8 @@ counted : (store part four : List ℕ) (count from : ℕ) → from ≤ length st
     → take from store ++ (part ++ drop (length store - from) (drop from store)) ≡ overwritten from (to_big_endian count) store
 counted store part four count from h e f = part-written store part (to_big_endian count) from h (rw e at f)
 
-pub overflow-sub-copy : goal.overflow-sub-copy
-overflow-sub-copy c = let fits = parts-fit c.args.l in search rules
+pub slice_bounds-copy-count : goal.slice_bounds-copy-count
+slice_bounds-copy-count c = let fits = parts-fit c.args.l in search rules
 
 pub slice_bounds-copy-start : goal.slice_bounds-copy-start
 slice_bounds-copy-start c = let fits = parts-fit c.args.l in search rules
@@ -31,7 +31,5 @@ copy-requires c =
 
 pub returns : goal.returns
 returns c =
-    let copied = c in
-    let split = copied in
-    let args = split.args in
-    counted args.store-1.now _ _ args.count _ (omega (arith, parts-fit args.l)) split.split.ensures copied.copy.ensures
+    let args = c.args in
+    counted args.store.now _ _ args.count _ (omega (arith, parts-fit args.l)) c.split.ensures c.copy.ensures

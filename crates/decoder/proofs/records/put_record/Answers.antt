@@ -51,44 +51,26 @@ module _ (seed : ℕ) (payload : List ℕ) (clean : Bool) (out : List ℕ) where
 pub copy-requires : goal.copy-requires
 copy-requires c = let fits = parts-fit (length c.args.payload.now) in search rules
 
-pub overflow-sub-put-evidence : goal.overflow-sub-put-evidence
-overflow-sub-put-evidence c =
-    let args = c.args in
-    let fits = parts-fit (length args.payload.now) in
-    search rules
+pub slice_bounds-put_evidence-count : goal.slice_bounds-put_evidence-count
+slice_bounds-put_evidence-count c = let fits = parts-fit (length c.args.payload.now) in search rules
 
 pub slice_bounds-put_evidence-start : goal.slice_bounds-put_evidence-start
-slice_bounds-put_evidence-start c =
-    let args = c.args in
-    let fits = parts-fit (length args.payload.now) in
-    search rules
+slice_bounds-put_evidence-start c = let fits = parts-fit (length c.args.payload.now) in search rules
 
 pub put_evidence-requires : goal.put_evidence-requires
-put_evidence-requires c =
-    let args = c.args in
-    let fits = parts-fit (length args.payload.now) in
-    search rules
+put_evidence-requires c = let fits = parts-fit (length c.args.payload.now) in search rules
 
 pub put_count-requires : goal.put_count-requires
 put_count-requires c =
-    let evidence = c in
-    let copied = evidence in
-    let split = copied in
-    let s = split in
-    let args = s.args in
-    let n = length args.payload.now in (
-      s.requires.0,
-      rw (put args.seed args.payload.now args.clean args.out-1.now _ _ _ split.split.ensures copied.copy.ensures evidence.put_evidence.ensures)
-          (room args.seed args.payload.now args.clean args.out-1.now s.requires.1),
+    let args = c.args in (
+      c.requires.0,
+      rw (put args.seed args.payload.now args.clean args.out.now _ _ _ c.split.ensures c.copy.ensures c.put_evidence.ensures)
+          (room args.seed args.payload.now args.clean args.out.now c.requires.1),
     )
 
 pub returns : goal.returns
 returns c =
-    let count = c in
-    let evidence = count in
-    let copied = evidence in
-    let split = copied in
-    let args = split.args in
-    count.put_count.ensures
-    ∙ counted args.seed args.payload.now args.clean args.out-1.now _
-    (put args.seed args.payload.now args.clean args.out-1.now _ _ _ split.split.ensures copied.copy.ensures evidence.put_evidence.ensures)
+    let args = c.args in
+    c.put_count.ensures
+    ∙ counted args.seed args.payload.now args.clean args.out.now _
+    (put args.seed args.payload.now args.clean args.out.now _ _ _ c.split.ensures c.copy.ensures c.put_evidence.ensures)

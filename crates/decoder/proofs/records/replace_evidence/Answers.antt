@@ -20,8 +20,8 @@ module _ (store part payload : List ℕ) (clean : Bool) (from : ℕ) where
       → take from store ++ (part ++ drop (length store - from) (drop from store)) ≡ overwritten from new store
   replaced h e = part-written store part new from h (rw (evidence-length payload clean) e)
 
-pub overflow-sub-put-evidence : goal.overflow-sub-put-evidence
-overflow-sub-put-evidence c = let fits = parts-fit (length c.args.payload.now) in search rules
+pub slice_bounds-put_evidence-count : goal.slice_bounds-put_evidence-count
+slice_bounds-put_evidence-count c = let fits = parts-fit (length c.args.payload.now) in search rules
 
 pub slice_bounds-put_evidence-start : goal.slice_bounds-put_evidence-start
 slice_bounds-put_evidence-start c = let fits = parts-fit (length c.args.payload.now) in search rules
@@ -31,7 +31,6 @@ put_evidence-requires c = let fits = parts-fit (length c.args.payload.now) in se
 
 pub returns : goal.returns
 returns c =
-    let put = c in
-    let args = put.args in
+    let args = c.args in
     let fits = parts-fit (length args.payload.now) in
-    replaced args.store-1.now _ args.payload.now args.clean (args.at + 4) (omega arith) put.put_evidence.ensures
+    replaced args.store.now _ args.payload.now args.clean (args.at + 4) (omega arith) c.put_evidence.ensures

@@ -50,40 +50,32 @@ module _ (buffer : List ℕ) (count seed : ℕ) (payload : List ℕ) (clean : Bo
 
 pub returns-then-store-at : goal.returns-then-store-at
 returns-then-store-at c =
-    let w = c.before in
-    let args = w.before.before.before.args in
-    full args.store-1.now args.count args.seed args.payload.now args.clean _ w.record_bytes-width.ensures (omega arith)
+    let args = c.args in
+    full args.store.now args.count args.seed args.payload.now args.clean _ c.record_bytes-width.ensures (omega arith)
 
 -- the records so far, by the one function
-fits : (c : goal.After-record_bytes-width)
-    → (let x = c.before.before.before.args in x.count * c.record_bytes-width.result ≤ length x.store-1.now)
-fits c = rw c.record_bytes-width.ensures c.before.before.before.requires.fits
+fits : (L count n : ℕ) (buffer : List ℕ) → n ≡ record_bytes L → count * record_bytes L ≤ length buffer → count * n ≤ length buffer
+fits L count n buffer wide h = rw wide h
 
 pub overflow_mul-at : goal.overflow_mul-at
-overflow_mul-at c = let h = fits c in search rules
-
-pub overflow-sub-if1 : goal.overflow-sub-if1
-overflow-sub-if1 c = let h = fits c in search rules
+overflow_mul-at c = let h = fits _ c.args.count _ c.args.store.now c.record_bytes-width.ensures c.requires.fits in omega arith
 
 pub overflow_add-end : goal.overflow_add-end
-overflow_add-end c = let h = fits c.before in search rules
+overflow_add-end c = let h = fits _ c.args.count _ c.args.store.now c.record_bytes-width.ensures c.requires.fits in omega arith
 
 pub slice_bounds-put_record-end : goal.slice_bounds-put_record-end
-slice_bounds-put_record-end c = let h = fits c.before in search rules
+slice_bounds-put_record-end c = let h = fits _ c.args.count _ c.args.store.now c.record_bytes-width.ensures c.requires.fits in omega arith
 
 -- there are no more records than bytes
-pub overflow-add-t10 : goal.overflow-add-t10
-overflow-add-t10 c =
-    let w = c.before.before.before.before.before in
-    let args = w.before.before.before.args in
-    let h = fits w in
-    let least : 1 ≤ w.record_bytes-width.result = omega (arith, w.record_bytes-width.ensures, parts-fit (length args.payload.now)) in
+pub overflow_add-result : goal.overflow_add-result
+overflow_add-result c =
+    let args = c.args in
+    let h = fits _ args.count _ args.store.now c.record_bytes-width.ensures c.requires.fits in
+    let least : 1 ≤ c.record_bytes-width.result = omega (arith, c.record_bytes-width.ensures, parts-fit (length args.payload.now)) in
     let few = mul-le-mul_left args.count least in
     search rules
 
 pub returns : goal.returns
 returns c =
-    let w = c.before.before.before.before.before in
-    let args = w.before.before.before.args in
-    more args.store-1.now args.count args.seed args.payload.now args.clean _ w.record_bytes-width.ensures _ (omega arith)
-    c.before.before.put_record.ensures
+    let args = c.args in
+    more args.store.now args.count args.seed args.payload.now args.clean _ c.record_bytes-width.ensures _ (omega arith) c.put_record.ensures

@@ -24,22 +24,11 @@ module _ (L at : ℕ) (buffer : List ℕ) (n : ℕ) (e : n ≡ record_count L (d
         leaves = f ∙ ap (λ (m : ℕ). overwritten (count_place L at) (to_big_endian m) buffer) (add-one n ∙ ap suc e);
       }
 
--- the count of the record from a place on
-counted : (c : goal.After-count_in-behind) → (let args = c.before.before.before.before.args in
-    c.count_in-behind.result ≡ record_count args.l (drop args.at args.store-1.now))
-counted c = rw rest-whole at c.count_in-behind.ensures
-
 pub count_in-behind-requires : goal.count_in-behind-requires
-count_in-behind-requires c =
-    let s = c.before.before.before in
-    let within = s.requires.1 in
-    rw rest-whole (s.requires.0, rw length-drop (omega arith))
+count_in-behind-requires c = let within = c.requires.1 in rw rest-whole (c.requires.0, rw length-drop (omega arith))
 
 pub returns-then-behind : goal.returns-then-behind
-returns-then-behind c = full _ _ _ _ (counted c.before) c.if-behind.true
+returns-then-behind c = full _ _ _ _ (rw rest-whole at c.count_in-behind.ensures) c.if-behind.true
 
 pub returns : goal.returns
-returns c =
-    let put = c.before.before in
-    let test = put.before.before in
-    more _ _ _ _ (counted test.before) test.if-behind.false _ put.put_count.ensures
+returns c = more _ _ _ _ (rw rest-whole at c.count_in-behind.ensures) c.if-behind.false _ c.put_count.ensures

@@ -1,12 +1,12 @@
 -- `store_read` meets its contract: one law for each of its answers. Assumes nothing.
-use mathlib.Core.Path.{◌≡◌, sym, ◌∙◌}
+use mathlib.Core.Path.{◌≡◌, sym}
 use mathlib.Core.Bool.{true, false}
 use mathlib.Core.List.{List}
 use Prim.Native.Nat.{ℕ}
 use borrow.Author.Tests.{ne_eqb, leb-true}
 use Rattle.droplet.specs.declared.card.Card.{Card}
 use Rattle.droplet.specs.Questions.{card_refusal}
-use Rattle.droplet.proofs.CardAnswers.{SaysNo, Passed, passed, stopped}
+use Rattle.droplet.proofs.CardAnswers.{SaysNo, passed, stopped}
 use Rattle.strand.specs.ReadCheck.{letters_reading}
 use Rattle.strand.proofs.ReadingCases.{case-letters}
 use Rattle.decoder.specs.declared.store.StoreAnswer.{StoreAnswer}
@@ -34,30 +34,25 @@ module _ (c : Card) (weights buffer : List ℕ) (count : ℕ) (read : List ℕ) 
         let letters = case-letters c weights read legal in
         record { says = rw (legal, e, letters) k.says; leaves = rw (legal, e, letters) k.leaves }
 
--- past the questions 2 to 4 and 27
-legal : (c : goal.In_default) → (let args = c.before.before.before.before.before.before.args in
-    Passed args.card args.weights.now c.enum_told-1.given.0.0.segments c.enum_told-1.given.0.0.degrees c.enum_told-1.given.0.0.sum)
-legal c = passed _ _ c.before.before.check_plan.ensures c.enum_told-1.given.1
-
 pub returns-in-Refused : goal.returns-in-Refused
-returns-in-Refused c = illegal _ _ _ _ _ _ (stopped _ _ c.before.before.before.check_plan.ensures c.before.n-1.given.1)
+returns-in-Refused c = illegal _ _ _ _ _ _ (stopped _ _ c.check_plan.ensures c.in-Refused.is)
 
 pub count_fits-requires : goal.count_fits-requires
-count_fits-requires c = (legal c.before.before).legal.sizes.l_most
+count_fits-requires c = (passed _ _ c.check_plan.ensures c.in_default.is).legal.sizes.l_most
 
 pub offer-requires : goal.offer-requires
 offer-requires c =
-    let fits = c.before.before in
-    let card = legal fits.before.before.before in (
-      record { short = card.legal.sizes.l_most; fits = leb-true _ _ (sym fits.count_fits.ensures ∙ c.before.if-count_fits.true) },
+    let card = passed _ _ c.check_plan.ensures c.in_default.is in (
+      record { short = card.legal.sizes.l_most; fits = leb-true _ _ (sym c.if-count_fits.ensures) },
       record { l_most = card.legal.sizes.l_most; check_count = card.legal.sizes.check_count },
     )
 
 pub returns-then-count_fits : goal.returns-then-count_fits
 returns-then-count_fits c =
-    let then = c.before.before.before.before in
-    stored _ _ _ _ _ (legal then.before.before.before.before).unrefused (sym then.before.count_fits.ensures ∙ then.if-count_fits.true) _ _ c.before.before.offer.ensures
+    let card = passed _ _ c.check_plan.ensures c.in_default.is in
+    stored _ _ _ _ _ card.unrefused (sym c.if-count_fits.ensures) _ _ c.offer.ensures
 
 pub returns : goal.returns
 returns c =
-    overfull _ _ _ _ _ (legal c.before.before.before.before).unrefused (sym c.before.count_fits.ensures ∙ c.if-count_fits.false)
+    let card = passed _ _ c.check_plan.ensures c.in_default.is in
+    overfull _ _ _ _ _ card.unrefused (sym c.if-count_fits.ensures)
