@@ -24,7 +24,7 @@ module _ {x : Reading} {r : ReadAnswer} (answers : Answers x r) where
   by-refusal n e = refusal-not x n (sym e ∙ answers.says)
 
 pub returns-in-Droplet : goal.returns-in-Droplet
-returns-in-Droplet c = by-droplet c.check_strand-answer.ensures _ c.enum_told-1.given.1
+returns-in-Droplet c = by-droplet c.check_strand-answer.ensures _ c.in-Droplet.is
 
 pub returns-in-Refused : goal.returns-in-Refused
-returns-in-Refused c = by-refusal c.check_strand-answer.ensures _ c.enum_told-in-Refused-1.given.1
+returns-in-Refused c = by-refusal c.check_strand-answer.ensures _ c.in-Refused.is

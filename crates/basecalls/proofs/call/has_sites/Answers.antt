@@ -1,5 +1,6 @@
 -- `has_sites` meets its contract: both ends of the call are compared. Assumes nothing.
 use mathlib.Core.Path.{◌≡◌, refl, ◌∙◌}
+use mathlib.Core.Bool.{Bool, true, false}
 use mathlib.Core.List.{List}
 use Prim.Native.Nat.{ℕ, ◌+◌, ◌-◌}
 use native.Mathlib.Omega.{arith}
@@ -18,22 +19,23 @@ behind call n long =
     let size = length-drop (27 + n) call in
     rw (take_all (length call - (27 + n)) (drop (27 + n) call) (omega (arith, size))) (take_all 21 (drop (27 + n) call) (omega (arith, size)))
 
-front : (c : goal.After-starts_with) → (let call = c.before.before.before.args.call.now in
-    c.starts_with.result ≡ same_bytes (take (length site_before) call) site_before)
-unfolding site_before text_letters
-front c = c.starts_with.ensures
+-- the answer where the front is compared with the site before and the end with the site after
+both : (call : List ℕ) (n : ℕ) {first second : Bool} → length call ≡ n + 48 → first ≡ same_bytes (take (length site_before) call) site_before
+    → first ≡ true → second ≡ same_bytes (take 21 (take (length call - (27 + n)) (drop (27 + n) call))) site_after → second ≡ sites_right n call
+unfolding sites_right site_before site_after text_letters
+both call n long e met f = and_then e met (f ∙ rw (behind call n long))
 
-end : (c : goal.After-starts_with-then-starts_with) → (let s = c.before.before.before.before.before.before.before in
-    c.starts_with-then-starts_with.result ≡ same_bytes (drop (length site_before + s.args.n) s.args.call.now) site_after)
-unfolding site_before site_after text_letters
-end c =
-    let s = c.before.before.before.before.before.before.before in
-    c.starts_with-then-starts_with.ensures ∙ rw (behind s.args.call.now s.args.n s.requires)
+-- the answer where the front is another
+neither : (call : List ℕ) (n : ℕ) {first : Bool} → first ≡ same_bytes (take (length site_before) call) site_before → first ≡ false
+    → first ≡ sites_right n call
+unfolding sites_right
+neither call n e unmet = and-else _ e unmet refl
 
 pub returns-then-starts_with : goal.returns-then-starts_with
-unfolding sites_right
-returns-then-starts_with c = and_then (front c.before.before.before.before) c.before.before.before.if-starts_with.true (end c)
+unfolding site_before site_after text_letters
+returns-then-starts_with c =
+    both c.args.call.now c.args.n c.requires c.starts_with.ensures c.if-starts_with.true c.starts_with-then-starts_with.ensures
 
 pub returns-else-starts_with : goal.returns-else-starts_with
-unfolding sites_right
-returns-else-starts_with c = and-else _ (front c.before) c.if-starts_with.false refl
+unfolding site_before text_letters
+returns-else-starts_with c = neither c.args.call.now c.args.n c.starts_with.ensures c.if-starts_with.false

@@ -6,16 +6,15 @@ use Rattle.basecalls.proofs.choice.choose_call.Goals as goal
 
 pub first_passing-requires : goal.first_passing-requires
 first_passing-requires c =
-    let card = passed _ _ c.check_plan.ensures c.enum_told-1.given.1 in
+    let card = passed _ _ c.check_plan.ensures c.in-Ready.is in
     record { l_most = card.legal.sizes.l_most; check_count = card.legal.sizes.check_count }
 
 pub returns-in-Refused : goal.returns-in-Refused
 returns-in-Refused c =
-    let no = stopped _ _ c.check_plan.ensures c.n-1.given.1 in
+    let no = stopped _ _ c.check_plan.ensures c.in-Refused.is in
     sym (card-refused _ _ _ _ _ no.number no.not-zero)
 
 pub returns-in-Ready : goal.returns-in-Ready
 returns-in-Ready c =
-    let told = c in
-    let card = passed _ _ told.check_plan.ensures told.enum_told-1.given.1 in
+    let card = passed _ _ c.check_plan.ensures c.in-Ready.is in
     c.first_passing.ensures ∙ sym (card-passed _ _ _ _ card.unrefused)

@@ -8,10 +8,7 @@ returns-then-passes c = sym (first_passes _ _ _ (sym c.passes.ensures ∙ c.if-p
 
 pub returns-then-passes-2 : goal.returns-then-passes-2
 returns-then-passes-2 c =
-    let other = c in
-    sym (second-passes _ _ _ (sym other.passes.ensures ∙ other.if-passes.false) (sym c.passes-2.ensures ∙ c.if-passes-2.true))
+    sym (second-passes _ _ _ (sym c.passes.ensures ∙ c.if-passes.false) (sym c.passes-2.ensures ∙ c.if-passes-2.true))
 
 pub returns : goal.returns
-returns c =
-    let other = c in
-    sym (none_passes _ _ _ (sym other.passes.ensures ∙ other.if-passes.false) (sym c.passes-2.ensures ∙ c.if-passes-2.false))
+returns c = sym (none_passes _ _ _ (sym c.passes.ensures ∙ c.if-passes.false) (sym c.passes-2.ensures ∙ c.if-passes-2.false))

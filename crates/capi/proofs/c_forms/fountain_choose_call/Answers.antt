@@ -1,24 +1,28 @@
 -- `fountain_choose_call` meets its contract: the numbers of each of the three answers. Assumes nothing.
 use mathlib.Core.Path.{◌≡◌, sym, ap, ◌∙◌}
-use Rattle.strand.specs.CForm.{handed_card}
+use mathlib.Core.List.{List}
+use Prim.Native.Nat.{ℕ}
+use Rattle.droplet.specs.declared.card.Card.{Card}
+use Rattle.basecalls.specs.declared.choice.ChoiceAnswer.{ChoiceAnswer}
 use Rattle.basecalls.specs.TwoCallers.{choice_of, choose_call}
 use Rattle.capi.specs.CForms.{choice_returned}
 use Rattle.capi.proofs.c_forms.fountain_choose_call.Goals as goal
 
--- what was found, under the card of what was handed
-found : (c : goal.After-choose_call) → (let x = c.before.before.before.before.before.args in
-    choice_of c.choose_call.result
-    ≡ choose_call (handed_card x.f x.l x.r x.m x.lo x.hi x.dealt x.width) x.weights.now x.first.now x.second.now)
-found c = c.choose_call.ensures ∙ rw c.before.handed_card-card.ensures
+-- the numbers of an answer, under the card of what was handed
+formed : {card handed : Card} (weights call call' : List ℕ) {r r' : ChoiceAnswer} → card ≡ handed
+    → choice_of r ≡ choose_call card weights call call' → r ≡ r' → (answer : List ℕ)
+    → choice_returned answer (choice_of r') ≡ choice_returned answer (choose_call handed weights call call')
+formed weights call call' same found e answer =
+    ap (choice_returned answer) (sym (ap choice_of e) ∙ found ∙ ap (λ k. choose_call k weights call call') same)
 
 pub returns-in-Refused : goal.returns-in-Refused
 unfolding choice_returned
-returns-in-Refused c = let n = c.before in ap (choice_returned _) (sym (ap choice_of n.n-1.given.1) ∙ found n.before.before)
+returns-in-Refused c = formed _ _ _ c.handed_card-card.ensures c.choose_call.ensures c.in-Refused.is _
 
 pub returns-in-First : goal.returns-in-First
 unfolding choice_returned
-returns-in-First c = let told = c.before in ap (choice_returned _) (sym (ap choice_of told.enum_told-1.given.1) ∙ found told.before.before)
+returns-in-First c = formed _ _ _ c.handed_card-card.ensures c.choose_call.ensures c.in-First.is _
 
 pub returns-in-Second : goal.returns-in-Second
 unfolding choice_returned
-returns-in-Second c = let told = c.before in ap (choice_returned _) (sym (ap choice_of told.enum_told-in-Second-1.given.1) ∙ found told.before.before)
+returns-in-Second c = formed _ _ _ c.handed_card-card.ensures c.choose_call.ensures c.in-Second.is _

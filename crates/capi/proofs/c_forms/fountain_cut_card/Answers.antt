@@ -12,17 +12,14 @@ use Rattle.capi.proofs.c_forms.fountain_cut_card.Goals as goal
 formed : {c c' : Card} {weights buffer : List ℕ} {r : CutAnswer} {buffer' : List ℕ} → c ≡ c' → CutPromise c weights buffer r buffer'
     → (answer : List ℕ) (n : ℕ) (answer' : List ℕ) → returned n answer' ≡ cut_returned answer (cut_answer r)
     → CutForm c' weights buffer answer n buffer' answer'
-formed same p answer n answer' e = rw (← same) (record { returns-in-Refused = e ∙ ap (cut_returned answer) p.says; leaves = p.leaves })
+formed same p answer n answer' e = rw (← same) (record { returns = e ∙ ap (cut_returned answer) p.says; leaves = p.leaves })
 
 pub returns-in-Refused : goal.returns-in-Refused
 unfolding cut_returned
 returns-in-Refused c =
-    let call = c in
-    formed call.handed_card-card.ensures call.cut_card.ensures _ _ _ (rw c.n-1.given.1)
+    formed c.handed_card-card.ensures c.cut_card.ensures _ _ _ (rw c.in-Refused.is)
 
 pub returns-in-Cut : goal.returns-in-Cut
 unfolding cut_returned
 returns-in-Cut c =
-    let size = c in
-    let call = size in
-    formed call.handed_card-card.ensures call.cut_card.ensures _ _ _ (rw size.size-1.given.1)
+    formed c.handed_card-card.ensures c.cut_card.ensures _ _ _ (rw c.in-Cut.is)

@@ -14,7 +14,7 @@ formed : {c c' : Card} {weights buffer : List ℕ} {count : ℕ} {file marks lis
     → (answer : List ℕ) (n : ℕ) (answer' : List ℕ) → returned n answer' ≡ restore_returned answer (restore_answer r)
     → RestoreForm c' weights buffer count file marks list answer n file' marks' list' answer'
 formed same p answer n answer' e = rw (← same) (record {
-  returns-in-Refused = e ∙ ap (restore_returned answer) p.says;
+  returns = e ∙ ap (restore_returned answer) p.says;
   fills = p.fills;
   sets = p.sets;
   keeps = p.keeps;
@@ -24,12 +24,9 @@ formed same p answer n answer' e = rw (← same) (record {
 pub returns-in-Refused : goal.returns-in-Refused
 unfolding restore_returned
 returns-in-Refused c =
-    let call = c in
-    formed call.handed_card-card.ensures call.restore.ensures _ _ _ (rw c.n-1.given.1)
+    formed c.handed_card-card.ensures c.restore.ensures _ _ _ (rw c.in-Refused.is)
 
 pub returns-in-Restored : goal.returns-in-Restored
 unfolding restore_returned
 returns-in-Restored c =
-    let n = c in
-    let call = n in
-    formed call.handed_card-card.ensures call.restore.ensures _ _ _ (rw n.sheet-1.given.1)
+    formed c.handed_card-card.ensures c.restore.ensures _ _ _ (rw c.in-Restored.is)

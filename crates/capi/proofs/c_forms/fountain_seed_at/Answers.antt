@@ -7,11 +7,9 @@ use Rattle.capi.proofs.c_forms.fountain_seed_at.Goals as goal
 pub returns-in-Refused : goal.returns-in-Refused
 unfolding seed_returned
 returns-in-Refused c =
-    let n = c in
-    ap (seed_returned _) (sym (ap seed_answer n.n-1.given.1) ∙ n.seed_at.ensures)
+    ap (seed_returned _) (sym (ap seed_answer c.in-Refused.is) ∙ c.seed_at.ensures)
 
 pub returns-in-Seed : goal.returns-in-Seed
 unfolding seed_returned
 returns-in-Seed c =
-    let s = c in
-    ap (seed_returned _) (sym (ap seed_answer s.seed-1.given.1) ∙ s.seed_at.ensures)
+    ap (seed_returned _) (sym (ap seed_answer c.in-Seed.is) ∙ c.seed_at.ensures)

@@ -13,31 +13,24 @@ formed : {c c' : Card} {weights buffer : List ℕ} {count : ℕ} {read : List �
     → c ≡ c' → StorePromise c weights buffer count read r buffer'
     → (answer : List ℕ) (n : ℕ) (answer' : List ℕ) → returned n answer' ≡ store_returned answer (store_answer r)
     → StoreForm c' weights buffer count read answer n buffer' answer'
-formed same p answer n answer' e = rw (← same) (record { returns-in-Refused = e ∙ ap (store_returned answer) p.says; leaves = p.leaves })
+formed same p answer n answer' e = rw (← same) (record { returns = e ∙ ap (store_returned answer) p.says; leaves = p.leaves })
 
 pub returns-in-Refused : goal.returns-in-Refused
 unfolding store_returned
 returns-in-Refused c =
-    let call = c in
-    formed call.handed_card-card.ensures call.store_read.ensures _ _ _ (rw c.n-1.given.1)
+    formed c.handed_card-card.ensures c.store_read.ensures _ _ _ (rw c.in-Refused.is)
 
 pub returns-in-Accepted : goal.returns-in-Accepted
 unfolding store_returned
 returns-in-Accepted c =
-    let n = c in
-    let call = n in
-    formed call.handed_card-card.ensures call.store_read.ensures _ _ _ (rw n.after-1.given.1)
+    formed c.handed_card-card.ensures c.store_read.ensures _ _ _ (rw c.in-Accepted.is)
 
 pub returns-in-Repeat : goal.returns-in-Repeat
 unfolding store_returned
 returns-in-Repeat c =
-    let n = c in
-    let call = n in
-    formed call.handed_card-card.ensures call.store_read.ensures _ _ _ (rw n.after-in-Repeat-1.given.1)
+    formed c.handed_card-card.ensures c.store_read.ensures _ _ _ (rw c.in-Repeat.is)
 
 pub returns-in-Replaced : goal.returns-in-Replaced
 unfolding store_returned
 returns-in-Replaced c =
-    let n = c in
-    let call = n in
-    formed call.handed_card-card.ensures call.store_read.ensures _ _ _ (rw n.after-in-Replaced-1.given.1)
+    formed c.handed_card-card.ensures c.store_read.ensures _ _ _ (rw c.in-Replaced.is)

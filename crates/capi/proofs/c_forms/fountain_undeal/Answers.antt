@@ -4,10 +4,8 @@ use Rattle.capi.proofs.c_forms.fountain_undeal.Goals as goal
 
 pub returns-in-Refused : goal.returns-in-Refused
 returns-in-Refused c =
-    let call = c in
-    refusal-formed call.handed_card-card.ensures call.deinterleave_file.ensures _ c.n-1.given.1
+    refusal-formed c.handed_card-card.ensures c.deinterleave_file.ensures _ c.in-Refused.is
 
 pub returns-in-Done : goal.returns-in-Done
 returns-in-Done c =
-    let call = c in
-    done-formed call.handed_card-card.ensures call.deinterleave_file.ensures c.enum_told-1.given.1
+    done-formed c.handed_card-card.ensures c.deinterleave_file.ensures c.in-Done.is

@@ -13,18 +13,14 @@ formed : {c c' : Card} {weights file : List ℕ} {start wanted budget : ℕ} {ou
     → c ≡ c' → WriterPromise c weights file start wanted budget out list r out' list'
     → (answer : List ℕ) (n : ℕ) (answer' : List ℕ) → returned n answer' ≡ write_returned answer (write_answer r)
     → WriteForm c' weights file start wanted budget out list answer n out' list' answer'
-formed same p answer n answer' e = rw (← same) (record { returns-in-Refused = e ∙ ap (write_returned answer) p.says; leaves = p.leaves })
+formed same p answer n answer' e = rw (← same) (record { returns = e ∙ ap (write_returned answer) p.says; leaves = p.leaves })
 
 pub returns-in-Refused : goal.returns-in-Refused
 unfolding write_returned
 returns-in-Refused c =
-    let call = c in
-    formed call.handed_card-card.ensures call.write_strands.ensures _ _ _ (rw c.n-1.given.1)
+    formed c.handed_card-card.ensures c.write_strands.ensures _ _ _ (rw c.in-Refused.is)
 
 pub returns-in-Written : goal.returns-in-Written
 unfolding write_returned
 returns-in-Written c =
-    let s = c in
-    let n = s in
-    let call = n in
-    formed call.handed_card-card.ensures call.write_strands.ensures _ _ _ (rw (n.run-1.given.1, s.stop_number.ensures))
+    formed c.handed_card-card.ensures c.write_strands.ensures _ _ _ (rw (c.in-Written.is, c.stop_number.ensures))

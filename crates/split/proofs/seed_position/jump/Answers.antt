@@ -1,6 +1,5 @@
--- What the search leaves. Assumes nothing.
+-- `jump` meets its contract: what the search leaves. Assumes nothing.
 use mathlib.Core.Path.{◌≡◌, sym, ap, ◌∙◌}
-use mathlib.Core.Logic.{⊎_elim}
 use Prim.Native.Nat.{ℕ, ◌+◌, ◌*◌, ◌/◌, ◌%◌}
 use native.Mathlib.Nat.{mul-one, zero-mul}
 use native.Mathlib.Omega.{arith}
@@ -9,6 +8,7 @@ use Rattle.field.specs.Generator.{seed_after, iterate}
 use Rattle.field.specs.Products.{seed_product}
 use Rattle.field.proofs.SeedPowers.{bit_raised, x-is, squared, bit-lt, jump-turn}
 use Rattle.split.proofs.seed_position.jump.Invariants.{Jumping}
+use Rattle.split.proofs.seed_position.jump.Goals.{then-bits-eq1, else-bits-eq1}
 use Rattle.split.proofs.seed_position.jump.Goals as goal
 
 -- the seed, by the lowest bit
@@ -38,10 +38,12 @@ loop-bits-smaller c = omega arith
 pub loop-bits-preserved : goal.loop-bits-preserved
 loop-bits-preserved c =
     let l = c.loop-bits in
-    turn _ _ l.seed c.if-bits-eq1.seed l.bits l.power c.product_of-power.result l.invariant
-    (⊎_elim
-    (λ w. w.2 ∙ w.1.ensures ∙ taken l.seed l.bits l.power w.0.taken)
-    (λ w. w.1 ∙ passed l.seed l.bits l.power (omega arith)) c.if-bits-eq1.branch) c.product_of-power.ensures
+    let seed : c.if-bits-eq1.seed ≡ bit_raised (l.bits % 2) l.power l.seed =
+    elim c.if-bits-eq1.branch [
+      | then-bits-eq1 w ↦ w.seed-is ∙ w.product_of-seed.ensures ∙ taken l.seed l.bits l.power w.if-bits-eq1.true
+      | else-bits-eq1 w ↦ w.seed-is ∙ passed l.seed l.bits l.power (omega arith)
+    ] in
+    turn _ _ l.seed c.if-bits-eq1.seed l.bits l.power c.product_of-power.result l.invariant seed c.product_of-power.ensures
 
 -- no bit is left
 ended : (start steps seed bits power : ℕ) → bits ≡ 0 → Jumping start steps seed bits power → seed ≡ iterate steps seed_after start
