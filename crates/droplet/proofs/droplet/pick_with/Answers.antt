@@ -1,6 +1,5 @@
 -- `pick_with` meets its contract: a turn draws a number, and what joins is written and marked. Assumes nothing.
 use mathlib.Core.Path.{refl, sym, ap, ◌∙◌}
-use Prim.Native.Nat.{◌-◌}
 use native.Mathlib.Omega.{arith}
 use lib.ListN.{length}
 use lib.Seq.{length-take-le}
