@@ -1,10 +1,8 @@
 -- The line's buffer and the tally hold the progress of the input: over a newline, over any other byte, and over calls one after
 -- the other. Assumes nothing.
-use Rattle.std.proofs.Common.{◌≡◌, ℕ, ◌+◌, ◌<◌, ◌≤◌, List, [], ◌∷◌, ◌++◌, length, get_or, take, set, ℤ, pos, negsuc, sym, refl, ap, ◌∙◌, add-one, arith, length-append, length-set, take_all, take-suc, take-suc-set}
+use Rattle.std.proofs.Common.{◌≡◌, ℕ, ◌+◌, ◌<◌, ◌≤◌, List, [], ◌∷◌, ◌++◌, length, get_or, take, set, sym, refl, ap, ◌∙◌, add-one, arith, length-append, length-set, take_all, take-suc, take-suc-set}
 use mathlib.Core.List.{foldl-append}
 use lib.Seq.{take-nil, take-append-le}
-use Rattle.libc.specs.Io.{Moved}
-use Rattle.io.specs.Counts.{clamp_len}
 use Rattle.droplet.specs.declared.card.Card.{Card}
 use Rattle.decoder.specs.declared.store.StoreAnswer.{StoreAnswer}
 use Rattle.decoder.specs.Store.{Kept, kept, accepted, replaced, repeat, refusal, store_answer, kept_answer, kept_buffer, store_read, StorePromise}
@@ -101,20 +99,7 @@ module _ (c : Card) (weights : List ℕ) (t : Tally) (line store : List ℕ) (t�
 
 -- ---- reads
 
--- as many bytes of the chunk as the code counts are those that the read brought
-front-brought : (got : ℤ) (chunk : List ℕ) (n : ℕ) → Moved (length chunk) got → n ≡ clamp_len got (length chunk) → take n chunk ≡ brought got chunk
-front-brought (pos k) chunk n fits e = let all : n ≡ k = omega arith in rw all
-front-brought (negsuc k) chunk n fits e = rw e
-
 module _ (c : Card) (weights : List ℕ) (t : Tally) (line store : List ℕ) where
-  pub goes-front : (got : ℤ) (chunk : List ℕ) (n : ℕ) (t₁ : Tally) (line₁ store₁ : List ℕ) → Moved (length chunk) got → n ≡ clamp_len got (length chunk)
-      → Goes (λ p. after_bytes c weights p (take n chunk)) t line store t₁ line₁ store₁
-      → Goes (λ p. after_bytes c weights p (brought got chunk)) t line store t₁ line₁ store₁
-  goes-front got chunk n t₁ line₁ store₁ moved counted goes = rw (front-brought got chunk n moved counted) at goes
-
-  pub none_came : t.held ≤ length line → Came c weights t line store t line store
-  none_came fits = record { bytes = []; goes = record { within = fits; holds = λ p h. h } }
-
   pub came-read : (t₁ : Tally) (line₁ store₁ chunk : List ℕ) (turn : Turn) (line₂ store₂ : List ℕ)
       → Came c weights t line store t₁ line₁ store₁ → Read c weights chunk t₁ line₁ store₁ turn line₂ store₂ → Came c weights t line store turn.tally line₂ store₂
   came-read t₁ line₁ store₁ chunk turn line₂ store₂ before read = record {

@@ -1,8 +1,10 @@
 -- What the contracts of the program's own functions cite: the input by its bytes, and how the code holds what they came to. No
 -- sentence of document 01 stands here. Assumes nothing.
-use Rattle.std.specs.Prelude.{◌≡◌, ℕ, ◌%◌, ◌^◌, ◌≤◌, min, Bool, cond, List, [], ◌∷◌, ◌++◌, length, take, ℤ, pos, negsuc, ◌==◌, nat_lt}
+use Rattle.std.specs.Prelude.{◌≡◌, ℕ, ◌%◌, ◌^◌, ◌≤◌, min, Bool, IsTrue, ◌↔◌, cond, List, [], ◌∷◌, ◌++◌, length, take, ◌==◌, nat_lt, Result, Ok, Err, IfOk}
 use mathlib.Core.List.{foldl}
-use Rattle.libc.specs.Io.{Moved}
+use Rattle.std.specs.IoError.{error_kind}
+use Rattle.std.specs.declared.io.Error.{Error}
+use Rattle.std.specs.declared.io.ErrorKind.TheVariants.{Interrupted}
 use Rattle.droplet.specs.declared.card.Card.{Card}
 use Rattle.decoder.specs.declared.store.StoreAnswer.{StoreAnswer}
 use Rattle.decoder.specs.Store.{kept, store_answer}
@@ -76,21 +78,21 @@ abbrev pub Closes : Card → List ℕ → Tally → List ℕ → List ℕ → Ta
 Closes c weights t line store t' store' = (p : Progress) → Holds p t line store → Stands (after_end c weights p) t' store'
 
 -- the bytes that a read brought, by its answer and the chunk that it left: the first of the chunk, as many as it answered. A read
--- that failed answers a number below 0, and brought none
-abbrev pub brought : ℤ → List ℕ → List ℕ
-brought (pos n) chunk = take n chunk
-brought (negsuc n) chunk = []
+-- that failed answers an error, and brought none
+abbrev pub brought : Result ℕ Error → List ℕ → List ℕ
+brought (Ok n) chunk = take n chunk
+brought (Err e) chunk = []
 
--- after some bytes there may be more, and after none there are none. After a failure it is for errno to say, of which no contract
--- speaks
-abbrev pub MayFollow : ℤ → Bool → Type 0
-MayFollow (pos n) more = more ≡ nat_lt 0 n
-MayFollow (negsuc n) more = Unit
+-- after some bytes there may be more, and after none there are none. After a failure there may be more where it is that of a
+-- signal, and only there
+abbrev pub MayFollow : Result ℕ Error → Bool → Type 0
+MayFollow (Ok n) more = more ≡ nat_lt 0 n
+MayFollow (Err e) more = IsTrue more ↔ (error_kind e ≡ Interrupted)
 
--- one read: its answer is one that `read` may give, and the bytes that it brought were gone through, all of them, once, and no
+-- one read: its answer is one that a read may give, and the bytes that it brought were gone through, all of them, once, and no
 -- others. No contract can say which bytes they are, or that the answer and the chunk are as `read` left them
 pub record Read (c : Card) (weights chunk : List ℕ) (t : Tally) (line store : List ℕ) (turn : Turn) (line' store' : List ℕ) : Type 0 where
-  pub answer : Moved (length chunk) turn.got
+  pub answer : IfOk turn.got (λ n. n ≤ length chunk)
   pub follows : MayFollow turn.got turn.more
   pub goes : Goes (λ p. after_bytes c weights p (brought turn.got chunk)) t line store turn.tally line' store'
 

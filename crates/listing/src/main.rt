@@ -6,66 +6,82 @@ mod behind;
 mod input;
 mod tally;
 
-ghost use Rattle.std.specs.Prelude.{◌≡◌, ◌≤◌, length};
-ghost use Rattle.io.specs.Counts.{IsPrefixLen};
+ghost use Rattle.std.specs.Prelude.{◌≡◌, ◌≤◌, length, take};
 ghost use Rattle.droplet.specs.Questions.{card_refusal};
 
 use behind::total_behind;
 use decoder::restorer::{RestoreAnswer, Sheet, restore};
 use droplet::card::{Card, CardAnswer, read_card, segment_count, weights_end};
 use input::list_reads;
-use libc::STDOUT_FILENO;
+use std::rt::Files;
+use std::{fs, io};
 use tally::Tally;
 
-// How many bytes of pool.card are at the start of `bytes`: none where it is missing, cannot be read, or has more than 8,192.
-fn load_card(bytes: &mut [u8]) -> usize
-    ensures { IsPrefixLen result bytes.new }
+// Reads until `bytes` is full, the input ends or a read fails, and returns how many bytes it put at the start of `bytes`.
+fn read_full(input: &mut impl io::Read, bytes: &mut [u8]) -> usize
+    ensures { (result ≤ length bytes.new) × (result ≡ length (take result bytes.new)) }
 {
-    let fd = os::open_read(b"pool.card");
-    if fd < 0 {
-        return 0;
+    let mut done = 0;
+    while done < bytes.len() {
+        let n = input.read(&mut bytes[done..]).unwrap_or(0);
+        if n == 0 {
+            break;
+        }
+        done += n;
     }
-    let n = io::read_full(fd, bytes);
-    libc::close(fd);
-    if 8192 < n {
-        return 0;
+    done
+}
+
+// How many bytes of pool.card are at the start of `bytes`: none where it is missing, cannot be read, or has more than 8,192.
+fn load_card(rt: &impl Files, bytes: &mut [u8]) -> usize
+    ensures { (result ≤ length bytes.new) × (result ≡ length (take result bytes.new)) }
+{
+    match fs::open(rt, "pool.card") {
+        Ok(mut file) => {
+            let n = read_full(&mut file, bytes);
+            if 8192 < n {
+                return 0;
+            }
+            n
+        }
+        Err(_) => 0,
     }
-    n
 }
 
-fn print(text: &[u8], n: u64) {
-    io::write_all(STDOUT_FILENO, text);
-    io::print_decimal(STDOUT_FILENO, n);
+fn print(rt: &impl Print, text: &str, n: u64) -> io::Result<()> {
+    print!(rt; "{text}{n}")
 }
 
-fn print_tally(t: Tally) {
-    print(b"reads ", t.reads);
-    print(b" accepted ", t.accepted);
-    print(b" repeated ", t.repeated);
-    print(b" refused ", t.refused);
-    io::write_all(STDOUT_FILENO, b"\n");
+fn print_tally(rt: &impl Print, t: Tally) -> io::Result<()> {
+    print(rt, "reads ", t.reads)?;
+    print(rt, " accepted ", t.accepted)?;
+    print(rt, " repeated ", t.repeated)?;
+    print(rt, " refused ", t.refused)?;
+    println!(rt;)
 }
 
-fn print_sheet(segments: u32, sheet: Sheet) {
-    print(b"segments ", segments as u64);
-    print(b" present ", sheet.present as u64);
-    print(b" sweeps ", sheet.passes as u64);
-    print(b" contradictions ", sheet.contradictions as u64);
-    io::write_all(STDOUT_FILENO, b"\n");
+fn print_sheet(rt: &impl Print, segments: u32, sheet: Sheet) -> io::Result<()> {
+    print(rt, "segments ", segments as u64)?;
+    print(rt, " present ", sheet.present as u64)?;
+    print(rt, " sweeps ", sheet.passes as u64)?;
+    print(rt, " contradictions ", sheet.contradictions as u64)?;
+    println!(rt;)
 }
 
-fn print_behind(total: u64) {
-    print(b"behind ", total);
-    io::write_all(STDOUT_FILENO, b"\n");
+fn print_behind(rt: &impl Print, total: u64) -> io::Result<()> {
+    print(rt, "behind ", total)?;
+    println!(rt;)
 }
 
-fn print_refusal(text: &[u8], n: u8) {
-    print(text, n as u64);
-    io::write_all(STDOUT_FILENO, b"\n");
+fn print_refusal(rt: &impl Print, text: &str, n: u8) -> io::Result<()> {
+    print(rt, text, n as u64)?;
+    println!(rt;)
 }
 
 // Lists the reads of a pool, and restores from those on the store. The card's questions have been asked.
 fn list_pool(
+    rt: &(impl Print + Eprint),
+    input: &mut impl io::Read,
     card: Card,
     segments: u32,
     weights: &[u8],
@@ -75,25 +91,27 @@ fn list_pool(
     file: &mut [u8],
     marks: &mut [u8],
     list: &mut [u32],
-)
+) -> io::Result<()>
     requires { (289 ≤ length line.old) × (card_refusal card weights.now ≡ 0) }
 {
-    let t = list_reads(card, weights, chunk, line, store);
+    let t = list_reads(rt, input, card, weights, chunk, line, store);
     let total = total_behind(store, card.l as usize, t.count);
     match restore(card, weights, store, t.count, file, marks, list) {
         RestoreAnswer::Restored(sheet) => {
-            print_tally(t);
-            print_sheet(segments, sheet);
-            print_behind(total);
+            print_tally(rt, t)?;
+            print_sheet(rt, segments, sheet)?;
+            print_behind(rt, total)
         }
         // No restore is refused here: the card is accepted, the count is that of this store, no legal read has seed 0, and the
         // lent buffers are large enough for every card that is not too large.
-        RestoreAnswer::Refused(n) => print_refusal(b"restore ", n),
+        RestoreAnswer::Refused(n) => print_refusal(rt, "restore ", n),
     }
 }
 
 // The whole run, over the card's bytes and the lent buffers.
 fn run(
+    rt: &(impl Print + Eprint),
+    input: &mut impl io::Read,
     bytes: &[u8],
     chunk: &mut [u8],
     line: &mut [u8],
@@ -101,33 +119,37 @@ fn run(
     file: &mut [u8],
     marks: &mut [u8],
     list: &mut [u32],
-)
+) -> io::Result<()>
     requires { 289 ≤ length line.old }
 {
     match read_card(bytes) {
-        CardAnswer::Refused(n) => print_refusal(b"card ", n),
+        CardAnswer::Refused(n) => print_refusal(rt, "card ", n),
         CardAnswer::Accepted(card, _) => {
             let k = segment_count(card);
             if k * (card.l as u32) <= 32768 {
                 let weights = &bytes[20..weights_end(bytes)];
-                list_pool(card, k, weights, chunk, line, store, file, marks, list);
+                list_pool(
+                    rt, input, card, k, weights, chunk, line, store, file, marks, list,
+                )
             } else {
-                io::write_all(STDOUT_FILENO, b"card too large\n");
+                println!(rt; "card too large")
             }
         }
     }
 }
 
-fn main() {
+fn main(rt: HostRuntime) -> io::Result<()> {
     let mut bytes = [0u8; 8193];
-    let mut chunk = io::large_buffer();
+    let mut chunk = [0u8; 65536];
     let mut line = [0u8; 512];
     let mut store = [0u8; 65536];
     let mut file = [0u8; 32768];
     let mut marks = [0u8; 32768];
     let mut list = [0u32; 1024];
-    let n = load_card(&mut bytes);
+    let n = load_card(&rt, &mut bytes);
     run(
+        &rt,
+        &mut rt.stdin(),
         &bytes[..n],
         &mut chunk,
         &mut line,
@@ -135,5 +157,5 @@ fn main() {
         &mut file,
         &mut marks,
         &mut list,
-    );
+    )
 }
