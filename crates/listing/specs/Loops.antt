@@ -83,13 +83,13 @@ abbrev pub brought : Result ℕ Error → List ℕ → List ℕ
 brought (Ok n) chunk = take n chunk
 brought (Err e) chunk = []
 
--- after some bytes there may be more, and after none there are none. After a failure there may be more where it is that of a
--- signal, and only there
+-- after some bytes there may be more, and after none there are none. After a failure there may be more just where it is that a
+-- signal stopped the read
 abbrev pub MayFollow : Result ℕ Error → Bool → Type 0
 MayFollow (Ok n) more = more ≡ nat_lt 0 n
 MayFollow (Err e) more = IsTrue more ↔ (error_kind e ≡ Interrupted)
 
--- one read: its answer is one that a read may give, and the bytes that it brought were gone through, all of them, once, and no
+-- one read: its answer is one that `read` may give, and the bytes that it brought were gone through, all of them, once, and no
 -- others. No contract can say which bytes they are, or that the answer and the chunk are as `read` left them
 pub record Read (c : Card) (weights chunk : List ℕ) (t : Tally) (line store : List ℕ) (turn : Turn) (line' store' : List ℕ) : Type 0 where
   pub answer : IfOk turn.got (λ n. n ≤ length chunk)
