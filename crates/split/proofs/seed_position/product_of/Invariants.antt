@@ -1,6 +1,6 @@
 -- `product_of` meets its contract: the bits that are left, with the sum so far, give the product. Assumes nothing.
 use mathlib.Core.Path.{◌≡◌}
-use Prim.Native.Nat.{◌-◌, ◌≤◌}
+use Prim.Native.Nat.{◌≤◌}
 use lib.Bits.{bit_xor}
 use Rattle.field.specs.Generator.{seed_after}
 use Rattle.field.specs.Products.{times, seed_product}
