@@ -102,6 +102,7 @@ fn sizes_right(card: Card) -> bool
 }
 
 // Question 3: the longest run, and the GC limits in thousandths.
+#[tactic(auto, unfolding(crate::specs::Questions::limits_right))]
 fn limits_right(card: Card) -> bool
     ensures { result ≡ limits_right card }
 {
