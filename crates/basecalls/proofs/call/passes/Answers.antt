@@ -1,4 +1,5 @@
 -- `passes` meets its contract: one law for each of its answers. Assumes nothing.
+use native.Mathlib.Omega.{arith}
 use mathlib.Core.Path.{◌≡◌, sym, ap, ◌∙◌}
 use mathlib.Core.Bool.{Bool, true, false}
 use mathlib.Core.List.{List}
@@ -33,15 +34,15 @@ module _ (card : Card) (call : List ℕ) (n : ℕ) (bases : n ≡ strand_bases c
         ∙ sym (by-its-middle card call (long size) (sites-are true met))
 
 pub returns-then-call-n : goal.returns-then-call-n
-returns-then-call-n c = by-length c.args.card c.args.call.now c.strand_bases-n.result c.strand_bases-n.ensures.0 c.if-call-n.true
+returns-then-call-n c = by-length c.args.card c.args.call.now c.strand_bases-n.result c.strand_bases-n.ensures.0 (λ e. omega (arith, e))
 
 pub returns-then-has_sites : goal.returns-then-has_sites
 unfolding middle
 returns-then-has_sites c =
-    by-middle c.args.card c.args.call.now c.strand_bases-n.result c.strand_bases-n.ensures.0 c.if-call-n.false c.has_sites.ensures
+    by-middle c.args.card c.args.call.now c.strand_bases-n.result c.strand_bases-n.ensures.0 (omega (arith, c.if-call-n.false)) c.has_sites.ensures
     c.if-has_sites.true c.middle.ensures.letters c.accepts.ensures
 
 pub returns : goal.returns
 returns c =
-    by-sites c.args.card c.args.call.now c.strand_bases-n.result c.strand_bases-n.ensures.0 c.if-call-n.false c.has_sites.ensures
+    by-sites c.args.card c.args.call.now c.strand_bases-n.result c.strand_bases-n.ensures.0 (omega (arith, c.if-call-n.false)) c.has_sites.ensures
     c.if-has_sites.false

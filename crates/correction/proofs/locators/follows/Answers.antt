@@ -1,4 +1,5 @@
 -- `follows` meets its contract: the first number that differs decides, or that no more are asked. Assumes nothing.
+use native.Mathlib.Omega.{arith}
 use borrow.Author.Tests.{eq-eqb, ne_eqb, le-leb, lt-leb}
 use Rattle.correction.specs.Locators.{follows}
 use Rattle.correction.proofs.locators.follows.Goals as goal
@@ -22,7 +23,7 @@ returns-then-m-le3 c =
       eq-eqb _ _ c.if-y0-s.false,
       lt-leb _ _ c.if-m-le2.false,
       eq-eqb _ _ c.if-y1-s.false,
-      le-leb _ _ c.if-m-le3.true,
+      le-leb c.args.m 3 (omega (arith, c.if-m-le3.true)),
     )
 
 pub returns : goal.returns
@@ -32,5 +33,5 @@ returns c =
       eq-eqb _ _ c.if-y0-s.false,
       lt-leb _ _ c.if-m-le2.false,
       eq-eqb _ _ c.if-y1-s.false,
-      lt-leb _ _ c.if-m-le3.false,
+      lt-leb c.args.m 3 (omega (arith, c.if-m-le3.false)),
     )

@@ -22,7 +22,7 @@ nothing card [] f e = rw (no-width-field card f) (sym (eq-same []))
 nothing card (b ∷ bytes) f e = absurd (let z : ⊥ = omega (arith, e, ap length (no-width-field card f)) in z)
 
 pub returns-then-bytes-width_length : goal.returns-then-bytes-width_length
-returns-then-bytes-width_length c = same_length _ _ (λ e. c.if-bytes-width_length.true (e ∙ sym c.width_length.ensures))
+returns-then-bytes-width_length c = same_length _ _ (λ e. omega (arith, e, c.width_length.ensures))
 
 pub starts_with-requires : goal.starts_with-requires
 starts_with-requires c =

@@ -26,7 +26,8 @@ seed_of-seed-requires c = omega (arith, (word_fits _ _ c.requires).0)
 pub returns-then-seed-eq0 : goal.returns-then-seed-eq0
 returns-then-seed-eq0 c =
     let a = c.args in
-    rw (case-12 a.card a.word.now a.corrected (sym c.seed_of-seed.ensures ∙ c.if-seed-eq0.true)) c.refuse.ensures
+    let zero : c.seed_of-seed.result ≡ 0 = omega (arith, c.if-seed-eq0.true) in
+    rw (case-12 a.card a.word.now a.corrected (sym c.seed_of-seed.ensures ∙ zero)) c.refuse.ensures
 
 pub to_bases-n-requires : goal.to_bases-n-requires
 to_bases-n-requires c = omega (arith, (word_fits _ _ c.requires).1)

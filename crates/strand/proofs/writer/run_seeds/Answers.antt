@@ -1,5 +1,5 @@
 -- `run_seeds` meets its contract: it begins and ends as the document's run, and each turn keeps up with that. Assumes nothing.
-use mathlib.Core.Path.{refl, ap, ◌∙◌}
+use mathlib.Core.Path.{◌≡◌, refl, ap, ◌∙◌}
 use Prim.Native.Nat.{◌+◌, ◌<◌}
 use native.Mathlib.Omega.{arith}
 use Rattle.droplet.proofs.LegalCard.{legal}
@@ -14,7 +14,9 @@ pub loop-made-init : goal.loop-made-init
 loop-made-init c = begun
 
 pub returns-then-tried-budget : goal.returns-then-tried-budget
-returns-then-tried-budget c = rw c.ended.ensures (spent c.loop-made.invariant c.loop-made-test.true c.if-tried-budget.true)
+returns-then-tried-budget c =
+    let whole : c.loop-made.tried ≡ c.args.budget = omega (arith, c.if-tried-budget.true) in
+    rw c.ended.ensures (spent c.loop-made.invariant c.loop-made-test.true whole)
 
 pub loop-made-preserved : goal.loop-made-preserved
 loop-made-preserved c =
