@@ -16,6 +16,6 @@ cards pairs:
 	    gcc -std=c99 -O2 -Iinclude host/$$program.c target/staticlib/libcapi.a -o target/bin/$$program || exit 1; \
 	done
 
-# Proves everything from nothing and runs all tests.
+# Proves everything, keeping what an earlier run here proved of the same files, and runs all tests.
 test:
 	@bash .ci/run
