@@ -1,6 +1,6 @@
 -- Document 02, Item 8, "Two base callers": "The instrument sends two calls of each ordered strand, 48 bases longer than n, with sites as in
 -- Item 1." The choice between them, and the letters that are handed back. Assumes nothing.
-use Rattle.std.specs.Prelude.{◌≡◌, Bool, true, false, cond, ◌&&◌, List, ℕ, ◌+◌, eqb, length, take, drop}
+use Rattle.std.specs.Prelude.{◌≡◌, Bool, true, false, cond, ◌&&◌, List, ℕ, ◌+◌, eqb, length, take, drop, Result, Ok, Err}
 use Rattle.std.specs.Borrow.{Bor}
 use Rattle.field.specs.Bytes.{same_bytes}
 use Rattle.droplet.specs.declared.card.Card.{Card}
@@ -8,8 +8,10 @@ use Rattle.droplet.specs.PoolCard.{strand_bases}
 use Rattle.droplet.specs.Questions.{card_refusal}
 use Rattle.screen.specs.Sites.{site_before, site_after}
 use Rattle.strand.specs.ReadCheck.{Reading, letters_reading}
-use Rattle.basecalls.specs.declared.choice.ChoiceAnswer.{ChoiceAnswer}
-use Rattle.basecalls.specs.declared.choice.ChoiceAnswer.TheVariants as answer
+use Rattle.droplet.specs.declared.refusal.Refusal.{Refusal}
+use Rattle.droplet.specs.Refusals.{refusal_number}
+use Rattle.basecalls.specs.declared.choice.Caller.{Caller}
+use Rattle.basecalls.specs.declared.choice.Caller.TheVariants as caller
 
 -- "the right .. sites": at the ends of a call, to the letter, with n letters between them
 unfoldable pub sites_right : ℕ → List ℕ → Bool
@@ -36,10 +38,10 @@ pub data Choice : Type 0 where
   second : Choice
   refused : ℕ → Choice
 
-abbrev pub choice_of : ChoiceAnswer → Choice
-choice_of answer.First = first
-choice_of answer.Second = second
-choice_of (answer.Refused n) = refused n
+abbrev pub choice_of : Result Caller Refusal → Choice
+choice_of (Ok caller.First) = first
+choice_of (Ok caller.Second) = second
+choice_of (Err q) = refused (refusal_number q)
 
 -- "the first call that .. passes ..; otherwise .. the second. If neither call passes, the pair is refused as 21"
 unfoldable pub first_passing : Card → List ℕ → List ℕ → Choice

@@ -1,1 +1,1 @@
-pub mod ReorderForms
+pub mod Numbers

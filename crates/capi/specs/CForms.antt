@@ -1,8 +1,10 @@
 -- The C forms of the card reader, the card cutter, the writer, the seed at a position, the choice between two calls, storing, restoring,
 -- dealing and undealing: for each the number returned and the lent answer, by the cases of what the call itself answers, and with it the
 -- buffers. A refusal leaves the answer as it was. Assumes nothing.
-use Rattle.std.specs.Prelude.{◌≡◌, Bool, false, cond, List, [], ◌∷◌, ℕ, eqb, length, drop}
+use Rattle.std.specs.Prelude.{◌≡◌, Bool, false, cond, List, [], ◌∷◌, ℕ, eqb, length, drop, Result, Ok, Err}
 use Rattle.droplet.specs.declared.card.Card.{Card}
+use Rattle.droplet.specs.declared.refusal.Refusal.{Refusal}
+use Rattle.droplet.specs.Refusals.{refusal_number}
 use Rattle.droplet.specs.PoolCard.{weight_count}
 use Rattle.droplet.specs.Questions.{CardRead}
 use Rattle.droplet.specs.CardCutter.{Cut, cut_reply, cut_buffer, cut_card}
@@ -11,13 +13,22 @@ use Rattle.strand.specs.declared.writer.Stop.{Stop}
 use Rattle.strand.specs.declared.writer.Stop.TheVariants.{Done, Spent}
 use Rattle.strand.specs.Writer.{Written, writer_answer, WriterLeaves}
 use Rattle.split.specs.SeedPosition.{SeedReply}
+use Rattle.basecalls.specs.declared.choice.Caller.{Caller}
+use Rattle.basecalls.specs.declared.choice.Caller.TheVariants.{First, Second}
 use Rattle.basecalls.specs.TwoCallers.{Choice}
+use Rattle.decoder.specs.declared.store.StoreAnswer.{StoreAnswer}
+use Rattle.decoder.specs.declared.store.StoreAnswer.TheVariants as reply
 use Rattle.decoder.specs.Store.{Stored, store_read, kept_answer, kept_buffer}
 use Rattle.decoder.specs.Restorer.{Restored, restore, restore_refusal, end_answer, end_state}
 
 -- the number returned, and the lent answer after it
 pub data Returned : Type 0 where
   returned : ℕ → List ℕ → Returned
+
+-- what a form returns for an answer of numbers
+abbrev pub numbers_returned : List ℕ → Result (List ℕ) Refusal → Returned
+numbers_returned answer (Ok numbers) = returned 0 numbers
+numbers_returned answer (Err q) = returned (refusal_number q) answer
 
 -- whether the card has the fourth field: 0 or 1
 abbrev pub flag_number : Bool → ℕ
@@ -61,11 +72,22 @@ unfoldable pub seed_returned : List ℕ → SeedReply → Returned
 seed_returned answer (SeedReply.seed s) = returned 0 (s ∷ [])
 seed_returned answer (SeedReply.refused n) = returned n answer
 
+-- the call that is chosen: 0 for the first, 1 for the second
+abbrev pub caller_number : Caller → ℕ
+caller_number First = 0
+caller_number Second = 1
+
 -- the choice between two calls: 0 for the first, 1 for the second
 unfoldable pub choice_returned : List ℕ → Choice → Returned
 choice_returned answer Choice.first = returned 0 (0 ∷ [])
 choice_returned answer Choice.second = returned 0 (1 ∷ [])
 choice_returned answer (Choice.refused n) = returned n answer
+
+-- what became of a read: 0 for accepted, 1 for a repeat, 2 for replaced, and the count after it
+abbrev pub store_numbers : StoreAnswer → List ℕ
+store_numbers (reply.Accepted count) = 0 ∷ (count ∷ [])
+store_numbers (reply.Repeat count) = 1 ∷ (count ∷ [])
+store_numbers (reply.Replaced count) = 2 ∷ (count ∷ [])
 
 -- storing: 0 for accepted, 1 for a repeat, 2 for replaced, and the count after it
 unfoldable pub store_returned : List ℕ → Stored → Returned

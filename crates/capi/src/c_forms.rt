@@ -1,35 +1,69 @@
-ghost use Rattle.std.specs.Prelude.{◌≡◌, true, false};
+ghost use Rattle.std.specs.Prelude.{◌≡◌, true, false, [], ◌∷◌};
 ghost use Rattle.droplet.specs.Questions.{card_reading};
+ghost use Rattle.droplet.specs.Refusals.{asked};
 ghost use Rattle.strand.specs.CForm.{handed_card};
 ghost use Rattle.split.specs.SeedPosition.{seed_at};
 ghost use Rattle.basecalls.specs.TwoCallers.{choose_call};
-ghost use Rattle.capi.specs.CForms.{flag_number, card_returned, stop_number, seed_returned, choice_returned, CutForm, WriteForm, StoreForm, RestoreForm, ReorderForm};
+ghost use Rattle.capi.specs.CForms.{numbers_returned, flag_number, card_returned, stop_number, caller_number, store_numbers, seed_returned, choice_returned, CutForm, WriteForm, StoreForm, RestoreForm, ReorderForm};
 ghost use Rattle.capi.specs.CForms.Returned.{returned};
 
 use basecalls::choice;
-use basecalls::choice::ChoiceAnswer;
-use decoder::restorer::RestoreAnswer;
+use basecalls::choice::Caller;
+use decoder::restorer::Sheet;
 use decoder::store::StoreAnswer;
 use decoder::{restorer, store};
-use droplet::card::CardAnswer;
-use droplet::card_cutter::CutAnswer;
+use droplet::card::Card;
+use droplet::refusal::Refusal;
 use droplet::{card, card_cutter};
 use interleave::file;
-use interleave::file::ReorderAnswer;
 use split::seed_position;
-use split::seed_position::SeedAnswer;
 use strand::c_form::handed_card;
 use strand::writer;
-use strand::writer::{Stop, WriteAnswer};
+use strand::writer::{Run, Stop};
 
 // Each form calls the public function of its layer and turns the answer into numbers. They are written last, and only where
 // nothing was refused, so that a refusal leaves what the host lent.
 
-// Whether the card has the fourth field, as a number.
-fn flag_number(flag: bool) -> u64
-    ensures { result ≡ flag_number flag }
+// What a form returns: 0, or the number of the refusal.
+fn code(outcome: Result<(), Refusal>) -> u32
+    ensures { result ≡ asked outcome }
 {
-    if flag { 1 } else { 0 }
+    match outcome {
+        Ok(()) => 0,
+        Err(refusal) => u32::from(refusal.number()),
+    }
+}
+
+// The same of a form that answers numbers.
+fn answered<const N: usize>(outcome: Result<[u64; N], Refusal>, answer: &mut [u64; N]) -> u32
+    ensures { returned result answer.new ≡ numbers_returned answer.old outcome.entry }
+{
+    match outcome {
+        Ok(numbers) => {
+            *answer = numbers;
+            0
+        }
+        Err(refusal) => u32::from(refusal.number()),
+    }
+}
+
+// The numbers of a card: F, L, R, m, lo, hi, D, whether the fourth field is there, and W.
+fn card_numbers(read: (Card, u32)) -> [u64; 9]
+    ensures { result ≡ read.0.f ∷ read.0.l ∷ read.0.r ∷ read.0.m ∷ read.0.lo ∷ read.0.hi ∷ read.1
+        ∷ flag_number read.0.interleaved ∷ read.0.width ∷ [] }
+{
+    let (card, degrees) = read;
+    [
+        u64::from(card.f),
+        u64::from(card.l),
+        u64::from(card.r),
+        u64::from(card.m),
+        u64::from(card.lo),
+        u64::from(card.hi),
+        u64::from(degrees),
+        u64::from(card.interleaved),
+        u64::from(card.width),
+    ]
 }
 
 // The card reader: F, L, R, m, lo, hi, D, whether the fourth field is there, and W.
@@ -37,23 +71,14 @@ fn flag_number(flag: bool) -> u64
 pub extern "C" fn fountain_read_card(card: &[u8], answer: &mut [u64; 9]) -> u32
     ensures { returned result answer.new ≡ card_returned answer.old (card_reading card.now) }
 {
-    match card::read_card(card) {
-        CardAnswer::Refused(n) => n as u32,
-        CardAnswer::Accepted(c, d) => {
-            *answer = [
-                c.f as u64,
-                c.l as u64,
-                c.r as u64,
-                c.m as u64,
-                c.lo as u64,
-                c.hi as u64,
-                d as u64,
-                flag_number(c.interleaved),
-                c.width as u64,
-            ];
-            0
-        }
-    }
+    let read = card::read_card(card);
+    answered(read.map(card_numbers), answer)
+}
+
+fn length_number(length: usize) -> [u64; 1]
+    ensures { result ≡ length ∷ [] }
+{
+    [length as u64]
 }
 
 // The card cutter: the card's length.
@@ -75,13 +100,8 @@ pub extern "C" fn fountain_cut_card(
         result out.new answer.new }
 {
     let card = handed_card(f, l, r, m, lo, hi, dealt, width);
-    match card_cutter::cut_card(card, weights, out) {
-        CutAnswer::Refused(n) => n as u32,
-        CutAnswer::Cut(size) => {
-            *answer = [size as u64];
-            0
-        }
-    }
+    let cut = card_cutter::cut_card(card, weights, out);
+    answered(cut.map(length_number), answer)
 }
 
 // How the writer stopped, as a number.
@@ -92,6 +112,20 @@ fn stop_number(stop: Stop) -> u64
         Stop::Done => 0,
         Stop::Spent => 1,
     }
+}
+
+// The numbers of a writer run.
+fn run_numbers(run: Run) -> [u64; 6]
+    ensures { result ≡ stop_number run.stop ∷ run.made ∷ run.tried ∷ run.next ∷ run.dropped_run ∷ run.dropped_gc ∷ [] }
+{
+    [
+        stop_number(run.stop),
+        u64::from(run.made),
+        u64::from(run.tried),
+        u64::from(run.next),
+        u64::from(run.dropped_run),
+        u64::from(run.dropped_gc),
+    ]
 }
 
 // The writer: the stop, made, tried, the next seed, and the strands dropped for a run and for GC alone.
@@ -118,21 +152,14 @@ pub extern "C" fn fountain_write(
         out.old list.old answer.old result out.new list.new answer.new }
 {
     let card = handed_card(f, l, r, m, lo, hi, dealt, width);
-    match writer::write_strands(card, weights, file, start, wanted, budget, out, list) {
-        WriteAnswer::Refused(n) => n as u32,
-        WriteAnswer::Written(run) => {
-            let stop = run.stop;
-            *answer = [
-                stop_number(stop),
-                run.made as u64,
-                run.tried as u64,
-                run.next as u64,
-                run.dropped_run as u64,
-                run.dropped_gc as u64,
-            ];
-            0
-        }
-    }
+    let written = writer::write_strands(card, weights, file, start, wanted, budget, out, list);
+    answered(written.map(run_numbers), answer)
+}
+
+fn seed_number(seed: u32) -> [u64; 1]
+    ensures { result ≡ seed ∷ [] }
+{
+    [u64::from(seed)]
 }
 
 // The seed after so many steps of the schedule.
@@ -140,12 +167,17 @@ pub extern "C" fn fountain_write(
 pub extern "C" fn fountain_seed_at(start: u32, steps: u32, answer: &mut [u64; 1]) -> u32
     ensures { returned result answer.new ≡ seed_returned answer.old (seed_at start steps) }
 {
-    match seed_position::seed_at(start, steps) {
-        SeedAnswer::Refused(n) => n as u32,
-        SeedAnswer::Seed(seed) => {
-            *answer = [seed as u64];
-            0
-        }
+    let seed = seed_position::seed_at(start, steps);
+    answered(seed.map(seed_number), answer)
+}
+
+// The call that is chosen, as a number.
+fn caller_number(caller: Caller) -> [u64; 1]
+    ensures { result ≡ caller_number caller ∷ [] }
+{
+    match caller {
+        Caller::First => [0],
+        Caller::Second => [1],
     }
 }
 
@@ -169,16 +201,18 @@ pub extern "C" fn fountain_choose_call(
         (choose_call (handed_card f l r m lo hi dealt width) weights.now first.now second.now) }
 {
     let card = handed_card(f, l, r, m, lo, hi, dealt, width);
-    match choice::choose_call(card, weights, first, second) {
-        ChoiceAnswer::Refused(n) => n as u32,
-        ChoiceAnswer::First => {
-            *answer = [0];
-            0
-        }
-        ChoiceAnswer::Second => {
-            *answer = [1];
-            0
-        }
+    let chosen = choice::choose_call(card, weights, first, second);
+    answered(chosen.map(caller_number), answer)
+}
+
+// What became of a read, as a number, and the count of records after it.
+fn store_numbers(reply: StoreAnswer) -> [u64; 2]
+    ensures { result ≡ store_numbers reply }
+{
+    match reply {
+        StoreAnswer::Accepted(after) => [0, after as u64],
+        StoreAnswer::Repeat(after) => [1, after as u64],
+        StoreAnswer::Replaced(after) => [2, after as u64],
     }
 }
 
@@ -203,21 +237,19 @@ pub extern "C" fn fountain_store(
         answer.old result store.new answer.new }
 {
     let card = handed_card(f, l, r, m, lo, hi, dealt, width);
-    match store::store_read(card, weights, store, count, read) {
-        StoreAnswer::Refused(n) => n as u32,
-        StoreAnswer::Accepted(after) => {
-            *answer = [0, after as u64];
-            0
-        }
-        StoreAnswer::Repeat(after) => {
-            *answer = [1, after as u64];
-            0
-        }
-        StoreAnswer::Replaced(after) => {
-            *answer = [2, after as u64];
-            0
-        }
-    }
+    let stored = store::store_read(card, weights, store, count, read);
+    answered(stored.map(store_numbers), answer)
+}
+
+// The numbers of a restore.
+fn sheet_numbers(sheet: Sheet) -> [u64; 3]
+    ensures { result ≡ sheet.present ∷ sheet.passes ∷ sheet.contradictions ∷ [] }
+{
+    [
+        u64::from(sheet.present),
+        u64::from(sheet.passes),
+        sheet.contradictions as u64,
+    ]
 }
 
 // Restoring: segments present, sweeps and contradictions.
@@ -244,17 +276,8 @@ pub extern "C" fn fountain_restore(
         file.new marks.new list.new answer.new }
 {
     let card = handed_card(f, l, r, m, lo, hi, dealt, width);
-    match restorer::restore(card, weights, store, count, file, marks, list) {
-        RestoreAnswer::Refused(n) => n as u32,
-        RestoreAnswer::Restored(sheet) => {
-            *answer = [
-                sheet.present as u64,
-                sheet.passes as u64,
-                sheet.contradictions as u64,
-            ];
-            0
-        }
-    }
+    let restored = restorer::restore(card, weights, store, count, file, marks, list);
+    answered(restored.map(sheet_numbers), answer)
 }
 
 // Dealing: the first F bytes of the target.
@@ -276,10 +299,7 @@ pub extern "C" fn fountain_deal(
         target.old result target.new }
 {
     let card = handed_card(f, l, r, m, lo, hi, dealt, width);
-    match file::interleave_file(card, weights, source, target) {
-        ReorderAnswer::Refused(n) => n as u32,
-        ReorderAnswer::Done => 0,
-    }
+    code(file::interleave_file(card, weights, source, target))
 }
 
 // Undealing, its inverse.
@@ -301,8 +321,5 @@ pub extern "C" fn fountain_undeal(
         target.old result target.new }
 {
     let card = handed_card(f, l, r, m, lo, hi, dealt, width);
-    match file::deinterleave_file(card, weights, source, target) {
-        ReorderAnswer::Refused(n) => n as u32,
-        ReorderAnswer::Done => 0,
-    }
+    code(file::deinterleave_file(card, weights, source, target))
 }

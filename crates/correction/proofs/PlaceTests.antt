@@ -5,6 +5,7 @@ use mathlib.Core.List.{List, [], ◌∷◌}
 use Prim.Native.Nat.{ℕ, zero, suc, ◌+◌, ◌^◌, ◌<◌, ◌≤◌}
 use native.Mathlib.Omega.{arith}
 use native.Mathlib.Decide.{dec_le}
+use Rattle.std.proofs.lemmas.Bool.{and_parts}
 use borrow.Author.Tests.{eq-eqb, eqb-true, le-leb, lt-leb}
 use lib.Bits.{bit_xor, xor_lt, xor_self}
 use lib.Dec.{eqb, leb}
@@ -13,7 +14,9 @@ use Rattle.field.specs.Products.{field_product}
 use Rattle.field.proofs.Xor.{xors, xor-zero-eq}
 use Rattle.field.proofs.Powers.{power-lt, power-double}
 use Rattle.field.proofs.FieldProducts.{determinant, geometric}
-use Rattle.correction.specs.Locators.{at, Fits, without, follows, square, linear, constant, FirstPlace}
+use Rattle.correction.specs.declared.locators.Locator.{Locator}
+use Rattle.correction.specs.declared.locators.Scaled.{Scaled}
+use Rattle.correction.specs.Locators.{at, Fits, without, follows, square, linear, constant, NoPlace, FirstPlace, NoTwoPlaces, FirstTwo}
 use Rattle.correction.proofs.ErrorShapes.{fits-same}
 
 pub power-turn : (p x y d : ℕ) → y ≡ times_power p x → d ≡ double y → d ≡ times_power (p + 1) x
@@ -24,21 +27,16 @@ power-turn p x y d e f =
 
 -- ---- one place
 
-both_true : (a b : Bool) → (a && b) ≡ true → (a ≡ true) × (b ≡ true)
-both_true true b e = (refl, e)
-both_true false b e = absurd (let z : ◌≡◌ {A = ℕ} 0 1 = cc in let y : ⊥ = omega arith in y)
-
-rest-true : (a b : Bool) → a ≡ false → (a || b) ≡ true → b ≡ true
-rest-true true b e h = absurd (let z : ◌≡◌ {A = ℕ} 0 1 = cc in let y : ⊥ = omega arith in y)
-rest-true false b e h = h
-
 -- the parts of a test that passed
 parts : (a k b l d : Bool) → (a && (k || (b && (l || d)))) ≡ true
     → (a ≡ true) × (k ≡ false → b ≡ true) × (k ≡ false → l ≡ false → d ≡ true)
 parts a k b l d e =
-    let r = both_true a (k || (b && (l || d))) e in
-    let q : k ≡ false → (b ≡ true) × ((l || d) ≡ true) = (λ h. both_true b (l || d) (rest-true k (b && (l || d)) h r.1)) in
-    (r.0, (λ h. (q h).0), (λ h g. rest-true l d g (q h).1))
+    let r = and_parts a (k || (b && (l || d))) e in
+    let q : k ≡ false → (b ≡ true) × ((l || d) ≡ true) = (λ h. and_parts b (l || d) (rest k (b && (l || d)) h r.1)) in
+    (r.0, (λ h. (q h).0), (λ h g. rest l d g (q h).1))
+  where
+    rest : (x y : Bool) → x ≡ false → (x || y) ≡ true → y ≡ true
+    rest x y e h = rw e at h
 
 module _ (m p : ℕ) (s : List ℕ) (most : m ≤ 4) where
   follows-fits : follows m s (times_power p (at s 0)) (times_power p (at s 1)) (times_power p (at s 2)) ≡ true → Fits m (at s) p
@@ -70,21 +68,25 @@ module _ (m p : ℕ) (s : List ℕ) (most : m ≤ 4) where
       ]
 
 -- the three numbers that the loops keep at place p
-pub record Scaled (p : ℕ) (s : List ℕ) (y0 y1 y2 : ℕ) : Type 0 where
-  pub zeroth : y0 ≡ times_power p (at s 0)
-  pub first : y1 ≡ times_power p (at s 1)
-  pub second : y2 ≡ times_power p (at s 2)
+pub record ScaledAt (p : ℕ) (s : List ℕ) (y : Scaled) : Type 0 where
+  pub zeroth : y.y0 ≡ times_power p (at s 0)
+  pub first : y.y1 ≡ times_power p (at s 1)
+  pub second : y.y2 ≡ times_power p (at s 2)
 
-pub scaled-turn : (p : ℕ) (s : List ℕ) (y0 y1 y2 d0 d1 d2 : ℕ) → Scaled p s y0 y1 y2 → d0 ≡ double y0 → d1 ≡ double y1 → d2 ≡ double y2
-    → Scaled (p + 1) s d0 d1 d2
-scaled-turn p s y0 y1 y2 d0 d1 d2 h e0 e1 e2 = record {
-  zeroth = power-turn p (at s 0) y0 d0 h.zeroth e0;
-  first = power-turn p (at s 1) y1 d1 h.first e1;
-  second = power-turn p (at s 2) y2 d2 h.second e2;
+pub scaled-zero : (s : List ℕ) (y : Scaled) → y.y0 ≡ at s 0 → y.y1 ≡ at s 1 → y.y2 ≡ at s 2 → ScaledAt 0 s y
+unfolding times_power
+scaled-zero s y e0 e1 e2 = record { zeroth = e0; first = e1; second = e2 }
+
+pub scaled-turn : (p : ℕ) (s : List ℕ) (y d : Scaled) → ScaledAt p s y → d.y0 ≡ double y.y0 → d.y1 ≡ double y.y1 → d.y2 ≡ double y.y2
+    → ScaledAt (p + 1) s d
+scaled-turn p s y d h e0 e1 e2 = record {
+  zeroth = power-turn p (at s 0) y.y0 d.y0 h.zeroth e0;
+  first = power-turn p (at s 1) y.y1 d.y1 h.first e1;
+  second = power-turn p (at s 2) y.y2 d.y2 h.second e2;
 }
 
 -- a turn of the search for one
-module _ (m p : ℕ) (s : List ℕ) (most : m ≤ 4) (y0 y1 y2 : ℕ) (h : Scaled p s y0 y1 y2) (r : Bool) (e : r ≡ follows m s y0 y1 y2) where
+module _ (m p : ℕ) (s : List ℕ) (most : m ≤ 4) (y : Scaled) (h : ScaledAt p s y) (r : Bool) (e : r ≡ follows m s y.y0 y.y1 y.y2) where
   tested : r ≡ follows m s (times_power p (at s 0)) (times_power p (at s 1)) (times_power p (at s 2))
   tested = rw (← h.zeroth, ← h.first, ← h.second) e
 
@@ -111,43 +113,51 @@ module _ (p : ℕ) (s : List ℕ) (bytes : (i : ℕ) → at s i < 2 ^ 8) where
       xor-byte : (i : ℕ) → without p (at s) i < 2 ^ 8
       xor-byte i = xor_lt 8 (at s (suc i)) (times_power p (at s i)) (bytes (suc i)) (power-lt p (at s i) (bytes i))
 
--- the two numbers of the locator that the loop keeps at place p
-pub record LocatorAt (p : ℕ) (s : List ℕ) (x y : ℕ) : Type 0 where
-  pub squared : x ≡ times_power p (times_power p (square s))
-  pub plain : y ≡ times_power p (linear s)
+-- the terms of the locator that the loop keeps at place p
+pub record LocatorAt (p : ℕ) (s : List ℕ) (l : Locator) : Type 0 where
+  pub squared : l.square ≡ times_power p (times_power p (square s))
+  pub plain : l.linear ≡ times_power p (linear s)
+  pub constant_is : l.constant ≡ constant s
 
-pub locator-turn : (p : ℕ) (s : List ℕ) (x y x₁ x₂ y₁ : ℕ) → LocatorAt p s x y → x₁ ≡ double x → x₂ ≡ double x₁ → y₁ ≡ double y
-    → LocatorAt (p + 1) s x₂ y₁
-locator-turn p s x y x₁ x₂ y₁ h e f g = record {
+pub locator-turn : (p : ℕ) (s : List ℕ) (l n : Locator) → LocatorAt p s l → n.square ≡ double (double l.square) → n.linear ≡ double l.linear
+    → n.constant ≡ l.constant → LocatorAt (p + 1) s n
+locator-turn p s l n h e f g = record {
   squared =
-      f ∙ ap double (power-turn p (times_power p (square s)) x x₁ h.squared e) ∙ sym (power-double (p + 1) (times_power p (square s)))
+      e ∙ ap double (power-turn p (times_power p (square s)) l.square _ h.squared refl) ∙ sym (power-double (p + 1) (times_power p (square s)))
       ∙ ap (times_power (p + 1)) (power-turn p (square s) _ _ refl refl);
-  plain = power-turn p (linear s) y y₁ h.plain g;
+  plain = power-turn p (linear s) l.linear n.linear h.plain f;
+  constant_is = g ∙ h.constant_is;
 }
 
 sum_of : (c l s : ℕ) → bit_xor (bit_xor c l) s ≡ 0 → bit_xor s l ≡ c
 sum_of c l s e = let d : bit_xor (bit_xor c l) l ≡ c = simp xors in ap (λ (x : ℕ). bit_xor x l) (sym (xor-zero-eq (bit_xor c l) s e)) ∙ d
 
--- where the numbers say that the locator is not 0, no place fits with p
-pub locator-miss : (p : ℕ) (s : List ℕ) (x y : ℕ) → ((i : ℕ) → at s i < 2 ^ 8) → LocatorAt p s x y → (bit_xor x y ≡ constant s → ⊥)
+-- where they say that it is not 0, no place fits with p
+pub locator-miss : (p : ℕ) (s : List ℕ) (l : Locator) → ((i : ℕ) → at s i < 2 ^ 8) → LocatorAt p s l → (bit_xor l.square l.linear ≡ l.constant → ⊥)
     → (j : ℕ) → Fits 3 (without p (at s)) j → ⊥
-locator-miss p s x y bytes h n j f = n (rw (h.squared, h.plain) (sum_of _ _ _ (locator-zero p s bytes j f)))
+locator-miss p s l bytes h n j f = n (rw (h.squared, h.plain, h.constant_is) (sum_of _ _ _ (locator-zero p s bytes j f)))
 
 -- the list that the code makes of what p leaves
-abbrev pub left_by : List ℕ → ℕ → ℕ → ℕ → List ℕ
-left_by s y0 y1 y2 = bit_xor (at s 1) y0 ∷ bit_xor (at s 2) y1 ∷ bit_xor (at s 3) y2 ∷ 0 ∷ []
+abbrev pub left_by : List ℕ → Scaled → List ℕ
+left_by s y = bit_xor (at s 1) y.y0 ∷ bit_xor (at s 2) y.y1 ∷ bit_xor (at s 3) y.y2 ∷ 0 ∷ []
 
--- where they say that it is 0, the place below p that fits that is searched for
-module _ (p : ℕ) (s : List ℕ) (y0 y1 y2 : ℕ) (h : Scaled p s y0 y1 y2) (q : ℕ) (f : FirstPlace 3 (left_by s y0 y1 y2) p q) where
-  left : (i : ℕ) → i < 3 → at (left_by s y0 y1 y2) i ≡ without p (at s) i
+-- where they say that it is 0, the place below p that fits is searched for
+module _ (p : ℕ) (s : List ℕ) (y : Scaled) (h : ScaledAt p s y) where
+  left : (i : ℕ) → i < 3 → at (left_by s y) i ≡ without p (at s) i
   unfolding without
   left zero k = ap (bit_xor (at s 1)) h.zeroth
   left (suc zero) k = ap (bit_xor (at s 2)) h.first
   left (suc (suc zero)) k = ap (bit_xor (at s 3)) h.second
   left (suc (suc (suc i))) k = absurd (let z : ⊥ = omega arith in z)
 
-  pub two-hit : q < p → (q < p) × Fits 3 (without p (at s)) q × (bit_xor (at s 1) y0 ≡ without p (at s) 0)
-  two-hit k = (k, fits-same 3 q _ _ left (f.here k), left 0 (omega arith))
+  pub two-hit : (n q : ℕ) → p < n → NoTwoPlaces s p → FirstPlace 3 (left_by s y) p q → FirstTwo s n p q (bit_xor (at s 1) y.y0)
+  two-hit n q below before f = record {
+    below = below;
+    before = before;
+    order = f.below;
+    here = fits-same 3 q _ _ left f.here;
+    left = left 0 (omega arith);
+  }
 
-  pub two-miss : p ≤ q → (j : ℕ) → j < p → Fits 3 (without p (at s)) j → ⊥
-  two-miss k j l g = f.before j (omega arith) (fits-same 3 j _ _ (λ i m. sym (left i m)) g)
+  pub two-miss : NoPlace 3 (left_by s y) p → (j : ℕ) → j < p → Fits 3 (without p (at s)) j → ⊥
+  two-miss none j l g = none j l (fits-same 3 j _ _ (λ i m. sym (left i m)) g)

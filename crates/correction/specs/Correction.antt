@@ -1,10 +1,8 @@
 -- Document 02, "Mending misread bytes" (Item 3), here error correction: the word that a read becomes. A word is a list of bytes; its
 -- check sums are the syndromes of document 01. Assumes nothing.
-use Rattle.std.specs.Prelude.{◌≡◌, Bool, true, cond, ◌&&◌, List, [], ◌∷◌, ◌↔◌, ℕ, zero, suc, ◌+◌, ◌/◌, ◌≤◌, eqb, length, set}
+use Rattle.std.specs.Prelude.{◌≡◌, Bool, true, cond, ◌&&◌, List, [], ◌∷◌, ◌↔◌, ℕ, zero, suc, ◌+◌, ◌/◌, ◌≤◌, eqb, length, set, Option, Some, None}
 use Rattle.field.specs.Bytes.{AllBytes}
 use Rattle.field.specs.CheckBytes.{Vanishes, syndromes}
-use Rattle.correction.specs.declared.correct.Correction.{Correction}
-use Rattle.correction.specs.declared.correct.Correction.TheVariants as answer
 
 abbrev pub all_zero : List ℕ → Bool
 all_zero [] = true
@@ -72,15 +70,15 @@ CorrectsExactly = (R : ℕ) (read : List ℕ) → R ≤ 4 → length read ≤ 25
 
 -- ---- the promise of the code: its answer and the word at exit
 
-abbrev pub answered : Correction → List ℕ → Corrected
-answered (answer.Done k) word = codeword word k
-answered answer.Hopeless word = none
+abbrev pub answered : Option ℕ → List ℕ → Corrected
+answered (Some k) word = codeword word k
+answered None word = none
 
 -- a read of which there is no such word stays as it is
 abbrev pub word_after : Corrected → List ℕ → List ℕ
 word_after (codeword word k) read = word
 word_after none read = read
 
-pub record Corrects (R : ℕ) (read : List ℕ) (r : Correction) (word : List ℕ) : Type 0 where
+pub record Corrects (R : ℕ) (read : List ℕ) (r : Option ℕ) (word : List ℕ) : Type 0 where
   pub says : answered r word ≡ corrected R read
   pub leaves : word ≡ word_after (corrected R read) read

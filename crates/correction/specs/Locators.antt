@@ -22,11 +22,15 @@ without p s i = bit_xor (s (suc i)) (times_power p (s i))
 unfoldable pub follows : ℕ → List ℕ → ℕ → ℕ → ℕ → Bool
 follows m s y0 y1 y2 = eqb y0 (at s 1) && (leb m 2 || (eqb y1 (at s 2) && (leb m 3 || eqb y2 (at s 3))))
 
--- r is the first place below n that fits the m numbers of s, or n
-pub record FirstPlace (m : ℕ) (s : List ℕ) (n r : ℕ) : Type 0 where
-  pub most : r ≤ n
-  pub before : (k : ℕ) → k < r → Fits m (at s) k → ⊥
-  pub here : r < n → Fits m (at s) r
+-- no place below n fits the m numbers of s
+abbrev pub NoPlace : ℕ → List ℕ → ℕ → Type 0
+NoPlace m s n = (k : ℕ) → k < n → Fits m (at s) k → ⊥
+
+-- p is the first place below n that fits them
+pub record FirstPlace (m : ℕ) (s : List ℕ) (n p : ℕ) : Type 0 where
+  pub below : p < n
+  pub before : NoPlace m s p
+  pub here : Fits m (at s) p
 
 -- the error locator of four syndromes without its division: square x^2 + linear x + constant is 0 at a^p, for each of the places p of two
 -- wrong bytes
@@ -46,11 +50,17 @@ constant s = bit_xor (field_product (at s 1) (at s 3)) (field_product (at s 2) (
 abbrev pub single_error : ℕ → List ℕ → Bool
 single_error R s = eqb R 2 || eqb (square s) 0
 
--- p is the first place below n that fits with a place q below it, and `rest` the first number that p taken out leaves; or p is n
+-- no place below n fits with a place below it
+abbrev pub NoTwoPlaces : List ℕ → ℕ → Type 0
+NoTwoPlaces s n = (k : ℕ) → k < n → (j : ℕ) → j < k → Fits 3 (without k (at s)) j → ⊥
+
+-- p is the first place below n that fits with a place q below it, and `rest` the first number that p taken out leaves
 pub record FirstTwo (s : List ℕ) (n p q rest : ℕ) : Type 0 where
-  pub most : p ≤ n
-  pub before : (k : ℕ) → k < p → (j : ℕ) → j < k → Fits 3 (without k (at s)) j → ⊥
-  pub here : p < n → (q < p) × Fits 3 (without p (at s)) q × (rest ≡ without p (at s) 0)
+  pub below : p < n
+  pub before : NoTwoPlaces s p
+  pub order : q < p
+  pub here : Fits 3 (without p (at s)) q
+  pub left : rest ≡ without p (at s) 0
 
 -- the word with e XORed into its byte at place p
 unfoldable pub changed : List ℕ → ℕ → ℕ → List ℕ

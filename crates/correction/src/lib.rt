@@ -3,4 +3,3 @@
 
 pub mod correct;
 pub mod locators;
-pub mod products;

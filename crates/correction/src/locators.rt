@@ -1,52 +1,71 @@
 // Where the wrong bytes of a word are, and what is wrong with them, from its syndromes. A place is counted from the last byte.
-ghost use Rattle.std.specs.Prelude.{◌≡◌, ℕ, ◌*◌, ◌<◌, ◌≤◌};
+ghost use Rattle.std.specs.Prelude.{◌≡◌, ℕ, ◌*◌, ◌<◌, ◌≤◌, ◌↔◌, IsTrue, MatchOption, slice_index};
 ghost use Rattle.std.specs.Int.Bits.{bit_xor};
 ghost use Rattle.field.specs.Bytes.{AllBytes};
-ghost use Rattle.field.specs.CheckBytes.{times_power};
+ghost use Rattle.field.specs.CheckBytes.{double, times_power};
 ghost use Rattle.field.specs.Products.{field_product};
-ghost use Rattle.correction.specs.Locators.{follows, square, linear, constant, single_error, FirstPlace, FirstTwo};
+ghost use Rattle.correction.specs.Locators.{follows, square, linear, constant, single_error, NoPlace, FirstPlace, NoTwoPlaces, FirstTwo};
 
-use crate::products::product_of;
 use field::check_bytes::times_root;
+use field::polynomial::product_of;
 
-// Whether `y0`, `y1`, `y2` are the numbers after the first of the `m` numbers of `s`.
-fn follows(m: u8, s: [u8; 4], y0: u8, y1: u8, y2: u8) -> bool
-    ensures { result ≡ follows m s y0 y1 y2 }
-{
-    if y0 != s[1] {
-        return false;
-    }
-    if m <= 2 {
-        return true;
-    }
-    if y1 != s[2] {
-        return false;
-    }
-    if m <= 3 {
-        return true;
-    }
-    y2 == s[3]
+// The first three syndromes, each times the root's power at a place.
+#[derive(Debug, Clone, Copy, PartialEq, Eq)]
+struct Scaled {
+    y0: u8,
+    y1: u8,
+    y2: u8,
 }
 
-// The first place below `n` that fits the `m` numbers of `s`, or `n`.
-pub fn place_of(m: u8, s: [u8; 4], n: usize) -> usize
-    requires { (2 ≤ m) × (m ≤ 4) }
-    ensures { FirstPlace m s n result }
-{
-    let mut y0 = s[0];
-    let mut y1 = s[1];
-    let mut y2 = s[2];
-    let mut p = 0;
-    while p < n {
-        if follows(m, s, y0, y1, y2) {
-            return p;
+impl Scaled {
+    // At place 0.
+    fn new(s: [u8; 4]) -> Scaled
+        ensures zeroth { result.y0 ≡ slice_index s 0 }
+        ensures first { result.y1 ≡ slice_index s 1 }
+        ensures second { result.y2 ≡ slice_index s 2 }
+    {
+        Scaled {
+            y0: s[0],
+            y1: s[1],
+            y2: s[2],
         }
-        y0 = times_root(y0);
-        y1 = times_root(y1);
-        y2 = times_root(y2);
-        p += 1;
     }
-    n
+
+    // At the next place.
+    fn next(self) -> Scaled
+        ensures zeroth { result.y0 ≡ double self.y0 }
+        ensures first { result.y1 ≡ double self.y1 }
+        ensures second { result.y2 ≡ double self.y2 }
+    {
+        Scaled {
+            y0: times_root(self.y0),
+            y1: times_root(self.y1),
+            y2: times_root(self.y2),
+        }
+    }
+
+    // Whether they are the numbers after the first of the `m` numbers of `s`.
+    #[tactic(auto, using(std::proofs::lemmas::Bool::Decides::nat_tests), unfolding(crate::specs::Locators::follows))]
+    fn follows(self, m: u8, s: [u8; 4]) -> bool
+        ensures { result ≡ follows m s self.y0 self.y1 self.y2 }
+    {
+        self.y0 == s[1] && (m <= 2 || self.y1 == s[2] && (m <= 3 || self.y2 == s[3]))
+    }
+}
+
+// The first place below `n` that fits the `m` numbers of `s`.
+pub fn place_of(m: u8, s: [u8; 4], n: usize) -> Option<usize>
+    requires { (2 ≤ m) × (m ≤ 4) }
+    ensures { MatchOption result (NoPlace m s n) (FirstPlace m s n) }
+{
+    let mut scaled = Scaled::new(s);
+    for p in 0..n {
+        if scaled.follows(m, s) {
+            return Some(p);
+        }
+        scaled = scaled.next();
+    }
+    None
 }
 
 // `x` times the root's `k`-th power.
@@ -54,10 +73,8 @@ fn times_power(k: usize, x: u8) -> u8
     ensures { result ≡ times_power k x }
 {
     let mut y = x;
-    let mut left = k;
-    while left > 0 {
+    for _ in 0..k {
         y = times_root(y);
-        left -= 1;
     }
     y
 }
@@ -101,74 +118,76 @@ fn minor(a: u8, b: u8, c: u8, d: u8) -> u8
 pub fn single_error(r: u8, s: [u8; 4]) -> bool
     ensures { result ≡ single_error r s }
 {
-    if r == 2 {
-        return true;
-    }
-    minor(s[0], s[2], s[1], s[1]) == 0
+    r == 2 || minor(s[0], s[2], s[1], s[1]) == 0
 }
 
-// The coefficients of the error locator.
-#[derive(Clone, Copy)]
+// The terms of the error locator at a place.
+#[derive(Debug, Clone, Copy, PartialEq, Eq)]
 struct Locator {
     square: u8,
     linear: u8,
     constant: u8,
 }
 
-fn locator_of(s: [u8; 4]) -> Locator
-    ensures { (result.square ≡ square s) × (result.linear ≡ linear s) × (result.constant ≡ constant s) }
-{
-    Locator {
-        square: minor(s[0], s[2], s[1], s[1]),
-        linear: minor(s[0], s[3], s[1], s[2]),
-        constant: minor(s[1], s[3], s[2], s[2]),
+impl Locator {
+    // At place 0: the coefficients.
+    fn new(s: [u8; 4]) -> Locator
+        ensures squared { result.square ≡ square s }
+        ensures plain { result.linear ≡ linear s }
+        ensures constant { result.constant ≡ constant s }
+    {
+        Locator {
+            square: minor(s[0], s[2], s[1], s[1]),
+            linear: minor(s[0], s[3], s[1], s[2]),
+            constant: minor(s[1], s[3], s[2], s[2]),
+        }
+    }
+
+    fn is_zero(self) -> bool
+        ensures { IsTrue result ↔ (bit_xor self.square self.linear ≡ self.constant) }
+    {
+        self.square ^ self.linear == self.constant
+    }
+
+    // At the next place.
+    fn next(self) -> Locator
+        ensures squared { result.square ≡ double (double self.square) }
+        ensures plain { result.linear ≡ double self.linear }
+        ensures constant { result.constant ≡ self.constant }
+    {
+        Locator {
+            square: times_root(times_root(self.square)),
+            linear: times_root(self.linear),
+            constant: self.constant,
+        }
     }
 }
 
 // Two places, the larger one first, and the first number that this one leaves of the syndromes.
-#[derive(Clone, Copy)]
+#[derive(Debug, Clone, Copy, PartialEq, Eq)]
 pub struct TwoPlaces {
     pub p: usize,
     pub q: usize,
     pub rest: u8,
 }
 
-// The first place below `n` that fits four syndromes with a place below it, and that place; or `n`. A place is tried only where the
-// locator is 0: with a square term, at two places at most.
-pub fn two_places(s: [u8; 4], n: usize) -> TwoPlaces
+// The first place below `n` that fits four syndromes with a place below it, and that place. A place is tried only where the locator is
+// 0: with a square term, at two places at most.
+pub fn two_places(s: [u8; 4], n: usize) -> Option<TwoPlaces>
     requires { AllBytes s }
-    ensures { FirstTwo s n result.p result.q result.rest }
+    ensures { MatchOption result (NoTwoPlaces s n) (λ two. FirstTwo s n two.p two.q two.rest) }
 {
-    let locator = locator_of(s);
-    let mut square = locator.square;
-    let mut linear = locator.linear;
-    let constant = locator.constant;
-    let mut y0 = s[0];
-    let mut y1 = s[1];
-    let mut y2 = s[2];
-    let mut p = 0;
-    while p < n {
-        if square ^ linear == constant {
-            let t = [s[1] ^ y0, s[2] ^ y1, s[3] ^ y2, 0];
-            let q = place_of(3, t, p);
-            if q < p {
-                return TwoPlaces {
-                    p,
-                    q,
-                    rest: s[1] ^ y0,
-                };
+    let mut locator = Locator::new(s);
+    let mut scaled = Scaled::new(s);
+    for p in 0..n {
+        if locator.is_zero() {
+            let t = [s[1] ^ scaled.y0, s[2] ^ scaled.y1, s[3] ^ scaled.y2, 0];
+            if let Some(q) = place_of(3, t, p) {
+                return Some(TwoPlaces { p, q, rest: t[0] });
             }
         }
-        square = times_root(times_root(square));
-        linear = times_root(linear);
-        y0 = times_root(y0);
-        y1 = times_root(y1);
-        y2 = times_root(y2);
-        p += 1;
+        locator = locator.next();
+        scaled = scaled.next();
     }
-    TwoPlaces {
-        p: n,
-        q: 0,
-        rest: 0,
-    }
+    None
 }

@@ -63,18 +63,18 @@ module _ (k d : ℕ) (first : Draw) (lent : List ℕ) where
         let t : Looked whole marks d between after r = rw (take_all d whole (rw whole_length (le_refl d))) at h in
         record { found = t.found; front = t.front; rest = t.rest ∙ rest }
 
-  module _ (state : Draw) (list : List ℕ) (j i : ℕ) (now : Picking k d first lent state list j i) (room : d ≤ length lent) where
+  module _ (state : Draw) (list : List ℕ) (i : ℕ) (now : Picking k d first lent state list i) (room : d ≤ length lent) where
     joined_length : length (take i list) ≡ i
     joined_length = length-take-le i list (omega (arith, now.long, now.at_most))
 
-    later-length : length (pick_from (d - i) state j (take i list)) ≡ d
-    later-length = pick-length (d - i) state j (take i list) ∙ omega (arith, joined_length, now.at_most)
+    later-length : length (pick_from (d - i) state (k - d + i) (take i list)) ≡ d
+    later-length = pick-length (d - i) state (k - d + i) (take i list) ∙ omega (arith, joined_length, now.at_most)
 
     drawn-front : take i whole ≡ take i list
     drawn-front =
-        let later = pick_from (d - i) state j (take i list) in
+        let later = pick_from (d - i) state (k - d + i) (take i list) in
         let most = now.at_most in
-        let front = pick-front (d - i) state j (take i list) in
+        let front = pick-front (d - i) state (k - d + i) (take i list) in
         sym (take-append-le i whole (drop d lent) (rw whole_length most))
         ∙ ap (take i) (sym now.goes_on)
         ∙ take-append-le i later (drop d list) (rw later-length most)
@@ -82,16 +82,16 @@ module _ (k d : ℕ) (first : Draw) (lent : List ℕ) where
 
     drawn-rest : drop d list ≡ drop d lent
     drawn-rest =
-        sym (drop_at (pick_from (d - i) state j (take i list)) (drop d list) d later-length)
+        sym (drop_at (pick_from (d - i) state (k - d + i) (take i list)) (drop d list) d later-length)
         ∙ ap (drop d) now.goes_on
         ∙ drop_at whole (drop d lent) d whole_length
 
     -- what the marks of the segments drawn show of the first n of the set, i being at most n
     module _ (n : ℕ) (most : i ≤ n) (some : n ≤ d) (marks : List ℕ) where
-      pub looked-several : unmarked_of (missing marks (take i list)) ≡ Several → Looked (take n whole) marks d lent list Several
-      looked-several e = record {
-        found = sym (several-front marks i (take n whole) (rw (take-take i n whole most, drawn-front) e));
-        front = λ no. absurd (no refl);
+      pub looked-several : (r : Unmarked) → r ≡ unmarked_of (missing marks (take i list)) → r ≡ Several → Looked (take n whole) marks d lent list r
+      looked-several r e several = record {
+        found = several ∙ sym (several-front marks i (take n whole) (rw (take-take i n whole most, drawn-front) (sym e ∙ several)));
+        front = λ no. absurd (no several);
         rest = drawn-rest;
       }
 

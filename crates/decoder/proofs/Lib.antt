@@ -25,6 +25,7 @@ pub mod BestReads
 pub mod StoreSteps
 pub mod LegalRead
 pub mod ReadRefusals
+pub mod StoreAnswers
 pub mod StoreCall
 pub mod Account
 pub mod ReadCounts
@@ -37,6 +38,7 @@ pub mod WrittenParts
 pub mod Unmarked
 pub mod DrawnFront
 pub mod RecordsAt
+pub mod RecordsIn
 pub mod SeedZero
 pub mod MarkedXor
 pub mod RecordTurns

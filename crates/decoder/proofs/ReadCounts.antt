@@ -165,4 +165,4 @@ module _ (taken : List LegalRead) (number : ℕ) (rs : List Record) (h : Counted
   pub step-not20 : (o : Reading) (a : Stored) (rs' : List Record) (room : ℕ) → OwnNumber o → Step room rs o a rs' → number < full_count
       → not20 a ≡ true
   step-not20 (droplet s p k) a rs' room own m less = move-not20 (droplet_read s p k) a rs' room m less
-  step-not20 (refused n) a rs' room own m less = rw (m.says, ne_eqb n 20 (λ e. omega arith))
+  step-not20 (refused n) a rs' room own m less = let most = own.most in rw (m.says, ne_eqb n 20 (λ e. omega arith))

@@ -7,7 +7,7 @@ use Prim.Native.Nat.{ℕ, suc, ◌+◌, ◌*◌, ◌^◌, ◌≤◌, ◌<◌}
 use native.Mathlib.Omega.{arith}
 use lib.ListN.{length, get_or, take, drop, length-append, length-drop, take-append-drop}
 use lib.Seq.{length-take-le, take_at, drop_at, drop-drop, get_or-drop}
-use Rattle.field.specs.Bytes.{All, to_big_endian}
+use Rattle.field.specs.Bytes.{All, from_big_endian, to_big_endian}
 use Rattle.field.proofs.BigEndian.{to-from, to-length}
 use Rattle.decoder.specs.Store.{LegalRead, Record, state_byte, reads_clean, record_bytes, evidence_text, record_text, record_seed, record_payload, record_state, record_count, record_from, records_text, records, evidence_place, count_place, overwritten}
 
@@ -67,8 +67,8 @@ module _ (L : ℕ) where
       let m : reads_clean (record_state L all) ≡ read.clean = rw (at, behind) (state-back read.clean) in
       let next : 5 + L ≡ 4 + L + 1 = omega arith in
       let last : drop (5 + L) all ≡ counts = ap (λ (n : ℕ). drop n all) next ∙ sym (drop-drop 1 (4 + L) all) ∙ ap (drop 1) behind in
-      let n : record_count L all ≡ r.count
-      = rw (last, take_at (to_big_endian r.count) rest 4 (to-length r.count)) (to-from r.count h.count_fits) in
+      let four : take 4 (drop (5 + L) all) ≡ to_big_endian r.count = ap (take 4) last ∙ take_at (to_big_endian r.count) rest 4 (to-length r.count) in
+      let n : record_count L all ≡ r.count = ap from_big_endian four ∙ to-from r.count h.count_fits in
       λ i. record { read = record { seed = s i; payload = p i; clean = m i }; count = n i }
 
 -- ---- records one after the other

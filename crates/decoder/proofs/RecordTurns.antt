@@ -9,7 +9,6 @@ use lib.ListN.{length, take, drop}
 use lib.Seq.{drop-drop}
 use Rattle.field.specs.Bytes.{All, padded, same_bytes}
 use Rattle.field.proofs.ByteLists.{take-padded, padded-length}
-use Rattle.droplet.specs.declared.card.Plan.{Plan}
 use Rattle.droplet.specs.PoolCard.{weight_count}
 use Rattle.droplet.specs.Droplet.{segments_of, payload}
 use Rattle.droplet.proofs.Degree.{degree_of-most}
@@ -17,9 +16,11 @@ use Rattle.droplet.proofs.Sets.{segments-length, segments-below}
 use Rattle.droplet.proofs.Payload.{payload-length}
 use Rattle.decoder.specs.declared.restorer.Unmarked.TheVariants.{None, One, Several}
 use Rattle.decoder.specs.declared.restorer.Drawn.{Drawn}
+use Rattle.decoder.specs.declared.restorer.Pool.{Pool}
 use Rattle.decoder.specs.Store.{record_bytes, record_seed, record_payload, record_from}
 use Rattle.decoder.specs.Restorer.{Droplet, State, marked, missing, filled, filled_by, step, present, is_nil, contradicts}
-use Rattle.decoder.specs.Loops.{droplet_of, unmarked_of, AllBelow, Seen, Room, Filled}
+use Rattle.decoder.specs.Loops.{unmarked_of, AllBelow}
+use Rattle.decoder.specs.Pools.{droplet_of, Seen, Room, Filled}
 use Rattle.decoder.proofs.AllOf.{all_map}
 use Rattle.decoder.proofs.MarkCounts.{present-more}
 use Rattle.decoder.proofs.RecordBytes.{payload-size}
@@ -39,26 +40,32 @@ drop_more d n xs ys h e =
     let past : d + (n - d) ≡ n = omega arith in
     rw (← past, ← drop-drop (n - d) d xs, ← drop-drop (n - d) d ys, e)
 
-module _ (plan : Plan) (L : ℕ) (weights bytes file marks before after : List ℕ) (r : Drawn) (size : length bytes ≡ record_bytes L)
-    (room : Room plan L weights file marks before) (seen : Seen weights plan.segments (record_seed bytes) marks before after r) where
+module _ (p : Pool) (bytes file marks before after : List ℕ) (r : Drawn) (size : length bytes ≡ record_bytes p.l)
+    (room : Room p file marks before) (seen : Seen p (record_seed bytes) marks before after r) where
   abbrev K : ℕ
-  K = plan.segments
+  K = p.plan.segments
+
+  abbrev L : ℕ
+  L = p.l
+
+  abbrev weights : List ℕ
+  weights = p.weights.now
 
   abbrev own : List ℕ
   own = segments_of weights K (record_seed bytes)
 
   -- the record's droplet, and the state before its turn
   abbrev one : Droplet
-  one = droplet_of weights K (record_from L bytes)
+  one = droplet_of p (record_from L bytes)
 
   abbrev st : State
   st = record { file = file; marks = marks }
 
   degree-most : r.degree ≤ weight_count weights
-  degree-most = rw seen.degree (degree_of-most weights (record_seed bytes) room.drawable.positive)
+  degree-most = rw seen.degree (degree_of-most weights (record_seed bytes) p.pickable.positive)
 
   pub degree-places : r.degree ≤ length before
-  degree-places = omega (arith, degree-most, room.drawable.places)
+  degree-places = omega (arith, degree-most, room.places)
 
   pub list-kept : drop (weight_count weights) after ≡ drop (weight_count weights) before
   list-kept = drop_more r.degree (weight_count weights) after before degree-most seen.looked.rest
@@ -71,10 +78,10 @@ module _ (plan : Plan) (L : ℕ) (weights bytes file marks before after : List �
   stored-size = payload-size L bytes (rw size (le_refl (record_bytes L)))
 
   own_below : All (λ s. s < K) own
-  own_below = segments-below weights K (record_seed bytes) room.drawable.positive room.drawable.degrees
+  own_below = segments-below weights K (record_seed bytes) p.pickable.positive p.pickable.degrees
 
   -- not just one segment is missing
-  pub turn-none : ((s : ℕ) → r.unmarked ≡ One s → ⊥) → Filled K weights (step L one st) marks before file marks after 0
+  pub turn-none : ((s : ℕ) → r.unmarked ≡ One s → ⊥) → Filled p (step L one st) marks before file marks after 0
   unfolding step droplet_of record_from
   turn-none other = record {
     state = sym (stays-unless L one st (missing marks own) (λ s e. other s (seen.looked.found ∙ e)));
@@ -116,7 +123,7 @@ module _ (plan : Plan) (L : ℕ) (weights bytes file marks before after : List �
 
     pub turn_one : (file' marks' : List ℕ)
         → record { file = file'; marks = marks' } ≡ filled L (record { segments = take r.degree after; payload = stored }) st s
-        → Filled K weights (step L one st) marks before file' marks' after 1
+        → Filled p (step L one st) marks before file' marks' after 1
     unfolding step filled_by filled droplet_of record_from
     turn_one file' marks' e = record {
       state = rw (lone-missing, ← (front-own lone-few)) e;
@@ -140,18 +147,18 @@ module _ (plan : Plan) (L : ℕ) (weights bytes file marks before after : List �
     all-few : r.unmarked ≡ Several → ⊥
     all-few e = let z : ◌≡◌ {A = ℕ} 0 1 = cc in omega arith
 
-    module _ (p : List ℕ) (made : p ≡ padded 64 (payload L file (take r.degree after))) where
-      pub xor-long : length stored ≤ length p
+    module _ (q : List ℕ) (made : q ≡ padded 64 (payload L file (take r.degree after))) where
+      pub xor-long : length stored ≤ length q
       xor-long =
           let size = payload-length L file (take r.degree after) in
-          omega (arith, ap length made, padded-length 64 (payload L file (take r.degree after)) (omega (arith, room.narrow)), stored-size)
+          omega (arith, ap length made, padded-length 64 (payload L file (take r.degree after)) (omega (arith, p.pickable.narrow)), stored-size)
 
-      pub contradicts-by : (same : Bool) → same ≡ same_bytes (take (length stored) p) stored → not same ≡ contradicts L st one
+      pub contradicts-by : (same : Bool) → same ≡ same_bytes (take (length stored) q) stored → not same ≡ contradicts L st one
       unfolding contradicts droplet_of record_from
       contradicts-by same e =
           let xor = payload L file own in
           let front : take L (padded 64 xor) ≡ xor
           = ap (λ (n : ℕ). take n (padded 64 xor)) (sym (payload-length L file own)) ∙ take-padded 64 xor in
-          let whole : take L p ≡ xor = rw (made, front-own all-few) front in
+          let whole : take L q ≡ xor = rw (made, front-own all-few) front in
           let none = unmarked-none (missing marks own) (sym all ∙ seen.looked.found) in
           rw (e, stored-size, whole, none)

@@ -1,6 +1,6 @@
--- A loop over the records of a store: the record at a place, one more, and the end; the droplets of the records. Assumes nothing.
+-- A loop over the records of a store: the record at a place, one more, and the end. Assumes nothing.
 use mathlib.Core.Path.{◌≡◌, sym}
-use mathlib.Core.List.{List, [], ◌∷◌, map}
+use mathlib.Core.List.{List, [], ◌∷◌}
 use Prim.Native.Nat.{ℕ, suc, ◌+◌, ◌-◌, ◌*◌, ◌≤◌, ◌<◌}
 use native.Mathlib.Nat.{mul-le-mul_right, zero-mul, sub-zero}
 use native.Mathlib.Omega.{arith}
@@ -8,8 +8,7 @@ use lib.ListN.{length, drop, length-drop}
 use lib.Seq.{length-take-le, take-take, drop-drop, get_or-take}
 use Rattle.field.specs.Bytes.{from_big_endian}
 use Rattle.decoder.specs.Store.{Record, reads_clean, record_bytes, record_payload, record_state, record_count, record_from, records}
-use Rattle.decoder.specs.Restorer.{Droplet}
-use Rattle.decoder.specs.Loops.{record_at, droplet_of, droplets_of}
+use Rattle.decoder.specs.Loops.{record_at}
 use Rattle.decoder.proofs.BufferParts.{part-inside}
 use Rattle.decoder.proofs.RecordBytes.{parts-fit}
 
@@ -35,7 +34,7 @@ module _ (L count : ℕ) (store : List ℕ) where
     record-length = length-take-le (record_bytes L) (drop (i * record_bytes L) store) (rw length-drop (omega (arith, record-fits)))
 
     -- a record reads no byte behind its own
-    record-own : record_from L (drop (i * record_bytes L) store) ≡ record_from L (record_at L store i)
+    pub record-own : record_from L (drop (i * record_bytes L) store) ≡ record_from L (record_at L store i)
     unfolding record_from record_payload record_state record_count record_at
     record-own =
         let from = drop (i * record_bytes L) store in
@@ -55,22 +54,3 @@ module _ (L count : ℕ) (store : List ℕ) where
         let e : count - i ≡ suc (count - (i + 1)) = omega arith in
         let past : i * record_bytes L + record_bytes L ≡ (i + 1) * record_bytes L = omega arith in
         rw (e, drop-drop (record_bytes L) (i * record_bytes L) store, past, record-own)
-
--- the droplets of these records
-unfoldable pub droplets_from : List ℕ → ℕ → ℕ → ℕ → List ℕ → ℕ → List Droplet
-droplets_from weights K L count store i = map (droplet_of weights K) (records_from L count store i)
-
-module _ (weights : List ℕ) (K L count : ℕ) (store : List ℕ) where
-  pub droplets-all : droplets_from weights K L count store 0 ≡ droplets_of weights K L count store
-  unfolding droplets_from droplets_of
-  droplets-all = rw (records-all L count store)
-
-  pub droplets-end : (i : ℕ) → count ≤ i → droplets_from weights K L count store i ≡ []
-  unfolding droplets_from
-  droplets-end i h = rw (records-end L count store i h)
-
-  pub droplets-next : (i : ℕ) → i < count → count * record_bytes L ≤ length store
-      → droplets_from weights K L count store i
-      ≡ droplet_of weights K (record_from L (record_at L store i)) ∷ droplets_from weights K L count store (i + 1)
-  unfolding droplets_from
-  droplets-next i h fits = rw (records-next L count store i h fits)

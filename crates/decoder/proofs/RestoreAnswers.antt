@@ -2,22 +2,36 @@
 -- Assumes nothing.
 use mathlib.Core.Path.{◌≡◌, refl, sym, ap, ◌∙◌}
 use mathlib.Core.Bool.{Bool, true, false, cond, ◌&&◌}
-use mathlib.Core.List.{List}
+use mathlib.Core.List.{List, map}
 use Prim.Native.Nat.{ℕ, suc, ◌*◌, ◌≤◌}
 use native.Mathlib.Omega.{arith}
 use borrow.Author.Tests.{eq-eqb, ne_eqb, leb-true}
 use lib.Dec.{leb}
-use lib.ListN.{length}
+use lib.ListN.{length, take}
+use Rattle.std.specs.Prelude.{Ok, Err}
 use Rattle.droplet.specs.declared.card.Card.{Card}
 use Rattle.droplet.specs.declared.card.Plan.{Plan}
+use Rattle.droplet.specs.declared.refusal.Refusal.{Refusal}
+use Rattle.droplet.specs.Refusals.{refusal_number}
+use Rattle.droplet.specs.PoolCard.{segment_count}
 use Rattle.droplet.specs.Questions.{card_refusal}
+use Rattle.droplet.specs.Droplet.{segments_of}
 use Rattle.droplet.proofs.Conjunctions.{and-true, said-yes}
 use Rattle.droplet.proofs.CardAnswers.{Passed, SaysNo}
+use Rattle.droplet.proofs.Refusals.{refusal_of, refusal-back}
 use Rattle.decoder.specs.declared.restorer.Sheet.{Sheet}
-use Rattle.decoder.specs.declared.restorer.RestoreAnswer.TheVariants as answer
-use Rattle.decoder.specs.Store.{record_bytes, records, count_fits}
+use Rattle.decoder.specs.Store.{Record, record_bytes, records, count_fits}
 use Rattle.decoder.specs.Restorer.{State, droplets, has_seed, peel_all, room_refusal, later_refusal, restore_refusal, restore, RestorePromise}
-use Rattle.decoder.specs.Loops.{droplet_of, droplets_of, Room, MadeSheet}
+use Rattle.decoder.specs.declared.restorer.Pool.{Pool}
+use Rattle.decoder.specs.Loops.{Pickable, records_in}
+use Rattle.decoder.specs.Pools.{droplet_of, droplets_in, Room, MadeSheet}
+use Rattle.decoder.proofs.RecordsIn.{records_in-first}
+
+-- no question has the number 0
+some-number : (why : Refusal) → refusal_number why ≡ 0 → ⊥
+some-number why e =
+    let other : ◌≡◌ {A = ℕ} 28 (refusal_number why) = ap refusal_number (sym (ap refusal_of e) ∙ refusal-back why) in
+    omega arith
 
 said-not : (b : Bool) (n others : ℕ) → cond b (suc n) others ≡ 0 → (b ≡ false) × (others ≡ 0)
 said-not true n others e = absurd (let z : ⊥ = omega arith in z)
@@ -47,14 +61,14 @@ later-fits K L D store count file marks list e =
     }
 
 module _ (c : Card) (weights store : List ℕ) (count : ℕ) (file marks list : List ℕ) where
-  abbrev refusal_of : ℕ
-  refusal_of = restore_refusal c weights store count (length file) (length marks) (length list)
+  abbrev number : ℕ
+  number = restore_refusal c weights store count (length file) (length marks) (length list)
 
-  refused-promise : (n : ℕ) → refusal_of ≡ n → (n ≡ 0 → ⊥)
-      → RestorePromise c weights store count file marks list (answer.Refused n) file marks list
+  refused-promise : (why : Refusal) → number ≡ refusal_number why → (refusal_number why ≡ 0 → ⊥)
+      → RestorePromise c weights store count file marks list (Err why) file marks list
   unfolding restore
-  refused-promise n e h =
-      let other : refusal_of ≡ 0 → ⊥ = λ z. h (sym e ∙ z) in
+  refused-promise why e h =
+      let other : number ≡ 0 → ⊥ = λ z. h (sym e ∙ z) in
       record {
         says = simp (ne_eqb _ _ other) (cc e);
         fills = simp (ne_eqb _ _ other);
@@ -63,20 +77,20 @@ module _ (c : Card) (weights store : List ℕ) (count : ℕ) (file marks list : 
         untouched = λ z. refl;
       }
 
-  pub card-refused : (n : ℕ) → SaysNo (card_refusal c weights) n
-      → RestorePromise c weights store count file marks list (answer.Refused n) file marks list
+  pub card-refused : (why : Refusal) → SaysNo (card_refusal c weights) (refusal_number why)
+      → RestorePromise c weights store count file marks list (Err why) file marks list
   unfolding restore_refusal
-  card-refused n stop =
-      refused-promise n (simp (ne_eqb (card_refusal c weights) 0 (λ z. stop.not-zero (sym stop.number ∙ z))) stop.number) stop.not-zero
+  card-refused why stop =
+      refused-promise why (simp (ne_eqb (card_refusal c weights) 0 (λ z. stop.not-zero (sym stop.number ∙ z))) stop.number) stop.not-zero
 
   module _ (plan : Plan) (passed : Passed c weights plan.segments plan.degrees plan.sum) where
-    later : later_refusal plan.segments c.l plan.degrees store count (length file) (length marks) (length list) ≡ refusal_of
+    later : later_refusal plan.segments c.l plan.degrees store count (length file) (length marks) (length list) ≡ number
     unfolding later_refusal restore_refusal
     later = rw (eq-eqb _ _ passed.unrefused, passed.segments, passed.degrees)
 
-    pub later-refused : (n : ℕ) → n ≡ later_refusal plan.segments c.l plan.degrees store count (length file) (length marks) (length list)
-        → (n ≡ 0 → ⊥) → RestorePromise c weights store count file marks list (answer.Refused n) file marks list
-    later-refused n e h = refused-promise n (sym (e ∙ later)) h
+    pub later-refused : (why : Refusal) → refusal_number why ≡ later_refusal plan.segments c.l plan.degrees store count (length file) (length marks) (length list)
+        → RestorePromise c weights store count file marks list (Err why) file marks list
+    later-refused why e = refused-promise why (sym (e ∙ later)) (some-number why)
 
     module _ (fine : 0 ≡ later_refusal plan.segments c.l plan.degrees store count (length file) (length marks) (length list)) where
       fits : Fits plan.segments c.l plan.degrees store count (length file) (length marks) (length list)
@@ -85,38 +99,47 @@ module _ (c : Card) (weights store : List ℕ) (count : ℕ) (file marks list : 
       pub records-fit : count * record_bytes c.l ≤ length store
       records-fit = fits.records-fit
 
-      pub room : Room plan c.l weights file marks list
-      room =
+      pub pickable : Pickable weights plan.segments plan.sum c.l
+      pickable =
           let w = passed.legal.weights in
           record {
-            drawable = record {
-              short = omega (arith, w.whole, w.degrees-most);
-              summed = passed.sum;
-              positive = w.sum-least;
-              few = omega (arith, passed.segments, passed.legal.sizes.segments-most);
-              degrees = omega (arith, passed.segments, w.degrees-segments);
-              places = omega (arith, passed.degrees, fits.list-fits);
-            };
+            short = omega (arith, w.whole, w.degrees-most);
+            summed = passed.sum;
+            positive = w.sum-least;
+            few = omega (arith, passed.segments, passed.legal.sizes.segments-most);
+            degrees = omega (arith, passed.segments, w.degrees-segments);
             narrow = passed.legal.sizes.l_most;
-            marks_fit = fits.marks-fit;
-            file_fits = fits.file-fits;
           }
 
-      same_droplets : droplets_of weights plan.segments c.l count store ≡ droplets c weights store count
-      unfolding droplets_of droplet_of droplets
-      same_droplets = rw passed.segments
+      -- the pool of this card and these weights
+      module _ (p : Pool) (own : p.weights.now ≡ weights) (numbers : p.plan ≡ plan) (width : p.l ≡ c.l) where
+        pub room : Room p file marks list
+        room = record {
+          file_fits = rw (numbers, width) fits.file-fits;
+          marks_fit = rw numbers fits.marks-fit;
+          places = rw own (omega (arith, passed.degrees, fits.list-fits));
+        }
 
-      pub restored-promise : (file' marks' list' : List ℕ) (r : Sheet)
-          → MadeSheet plan.segments c.l weights (droplets_of weights plan.segments c.l count store)
-          (peel_all plan.segments c.l (droplets_of weights plan.segments c.l count store) file marks) list file' marks' list' r
-          → RestorePromise c weights store count file marks list (answer.Restored r) file' marks' list'
-      unfolding restore
-      restored-promise file' marks' list' r done =
-          let none : refusal_of ≡ 0 = sym (fine ∙ later) in
-          record {
-            says = simp (eq-eqb _ _ none) (rw (same_droplets, passed.segments) at done.sheet);
-            fills = simp (eq-eqb _ _ none) (ap (λ (st : State). st.file) (rw (same_droplets, passed.segments) at done.state));
-            sets = simp (eq-eqb _ _ none) (ap (λ (st : State). st.marks) (rw (same_droplets, passed.segments) at done.state));
-            keeps = done.rest;
-            untouched = λ z. let y = eq-eqb _ _ none in absurd (let x : ◌≡◌ {A = ℕ} 0 1 = cc in let w : ⊥ = omega arith in w);
-          }
+        segments : p.plan.segments ≡ segment_count c
+        segments = ap (λ (q : Plan). q.segments) numbers ∙ passed.segments
+
+        same_droplets : droplets_in p (take (count * record_bytes c.l) store) ≡ droplets c weights store count
+        unfolding droplets_in droplet_of droplets
+        same_droplets =
+            let first = ap (λ (L : ℕ). records_in L (take (count * record_bytes c.l) store)) width ∙ records_in-first c.l count store fits.records-fit in
+            ap (map (droplet_of p)) first
+            ∙ (λ z. map (λ (r : Record). record { segments = segments_of (own z) (segments z) r.read.seed; payload = r.read.payload }) (records c.l count store))
+
+        pub restored-promise : (records file' marks' list' : List ℕ) (r : Sheet) → records ≡ take (count * record_bytes c.l) store
+            → MadeSheet p (droplets_in p records) (peel_all p.plan.segments p.l (droplets_in p records) file marks) list file' marks' list' r
+            → RestorePromise c weights store count file marks list (Ok r) file' marks' list'
+        unfolding restore
+        restored-promise records file' marks' list' r first done =
+            let none : number ≡ 0 = sym (fine ∙ later) in
+            record {
+              says = simp (eq-eqb _ _ none) (rw (first, same_droplets, segments, width) at done.sheet);
+              fills = simp (eq-eqb _ _ none) (ap (λ (st : State). st.file) (rw (first, same_droplets, segments, width) at done.state));
+              sets = simp (eq-eqb _ _ none) (ap (λ (st : State). st.marks) (rw (first, same_droplets, segments, width) at done.state));
+              keeps = rw own at done.rest;
+              untouched = λ z. let y = eq-eqb _ _ none in absurd (let x : ◌≡◌ {A = ℕ} 0 1 = cc in let w : ⊥ = omega arith in w);
+            }

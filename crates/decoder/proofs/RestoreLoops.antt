@@ -2,57 +2,48 @@
 -- Assumes nothing.
 use mathlib.Core.Path.{◌≡◌, refl, sym, ap, ◌∙◌}
 use mathlib.Core.Bool.{Bool, true, false}
-use mathlib.Core.List.{List, ◌∷◌}
-use Prim.Native.Nat.{ℕ, suc, ◌+◌, ◌-◌, ◌*◌, ◌≤◌, ◌<◌}
+use mathlib.Core.List.{List, ◌∷◌, ◌++◌}
+use Prim.Native.Nat.{ℕ, suc, ◌+◌, ◌-◌, ◌≤◌, ◌<◌}
 use native.Mathlib.Nat.{sub-zero}
 use native.Mathlib.Omega.{arith}
 use borrow.Author.Tests.{eq-eqb, ne_eqb}
-use lib.ListN.{length, drop}
-use Rattle.droplet.specs.declared.card.Plan.{Plan}
+use lib.ListN.{length, drop, length-append}
+use Rattle.std.specs.Int.{from_bool}
 use Rattle.droplet.specs.PoolCard.{weight_count}
 use Rattle.decoder.specs.Store.{record_bytes, record_from}
 use Rattle.decoder.specs.Restorer.{Droplet, State, step, pass, present, peeled, peel, contradicts, contradictions}
-use Rattle.decoder.specs.Loops.{record_at, droplet_of, droplets_of, Room, Filled}
+use Rattle.decoder.specs.declared.restorer.Pool.{Pool}
+use Rattle.decoder.specs.Pools.{droplet_of, droplets_in, Room, Filled}
 use Rattle.decoder.proofs.MarkCounts.{present-most}
 use Rattle.decoder.proofs.Passes.{pass-cons, peel-stop, peel-more}
-use Rattle.decoder.proofs.RecordsAt.{droplets_from, droplets-all, droplets-end, droplets-next}
+use Rattle.decoder.proofs.RecordsIn.{width-some, droplets_in-cons, droplets_in-short}
 
 -- buffers of the same lengths have room too
-module _ (plan : Plan) (L : ℕ) (weights : List ℕ) {file marks list file' marks' list' : List ℕ} where
-  pub room-stays : Room plan L weights file marks list → length file' ≡ length file → length marks' ≡ length marks → length list' ≡ length list
-      → Room plan L weights file' marks' list'
+module _ (p : Pool) {file marks list file' marks' list' : List ℕ} where
+  pub room-stays : Room p file marks list → length file' ≡ length file → length marks' ≡ length marks → length list' ≡ length list
+      → Room p file' marks' list'
   room-stays room f m l = record {
-    drawable = record {
-      short = room.drawable.short;
-      summed = room.drawable.summed;
-      positive = room.drawable.positive;
-      few = room.drawable.few;
-      degrees = room.drawable.degrees;
-      places = omega (arith, room.drawable.places);
-    };
-    narrow = room.narrow;
-    marks_fit = omega (arith, room.marks_fit);
     file_fits = omega (arith, room.file_fits);
+    marks_fit = omega (arith, room.marks_fit);
+    places = omega (arith, room.places);
   }
 
 -- ---- a pass
 
--- after i records: the records left make of the state now what all make of the state at the start
-pub record Passing (weights : List ℕ) (K L count : ℕ) (store file₀ marks₀ list₀ file marks list : List ℕ) (filled i : ℕ) : Type 0 where
-  pub at_most : i ≤ count
-  pub goes_on : pass L (droplets_from weights K L count store i) (record { file = file; marks = marks })
-      ≡ pass L (droplets_of weights K L count store) (record { file = file₀; marks = marks₀ })
-  pub counted : present K marks ≡ present K marks₀ + filled
-  pub rest : drop (weight_count weights) list ≡ drop (weight_count weights) list₀
+-- with some of the bytes left: their records make of the state now what all make of the state at the start
+pub record Passing (p : Pool) (bytes file₀ marks₀ list₀ left file marks list : List ℕ) (filled : ℕ) : Type 0 where
+  pub goes_on : pass p.l (droplets_in p left) (record { file = file; marks = marks })
+      ≡ pass p.l (droplets_in p bytes) (record { file = file₀; marks = marks₀ })
+  pub counted : present p.plan.segments marks ≡ present p.plan.segments marks₀ + filled
+  pub rest : drop (weight_count p.weights.now) list ≡ drop (weight_count p.weights.now) list₀
   pub file-size : length file ≡ length file₀
   pub marks-size : length marks ≡ length marks₀
   pub list-size : length list ≡ length list₀
 
-module _ (weights : List ℕ) (K L count : ℕ) (store file₀ marks₀ list₀ : List ℕ) where
-  pub passing_begins : (none : ℕ) → none ≡ 0 → Passing weights K L count store file₀ marks₀ list₀ file₀ marks₀ list₀ none 0
-  passing_begins none z = record {
-    at_most = omega arith;
-    goes_on = ap (λ (ds : List Droplet). pass L ds (record { file = file₀; marks = marks₀ })) (droplets-all weights K L count store);
+module _ (p : Pool) (bytes file₀ marks₀ list₀ : List ℕ) where
+  pub passing_begins : (left : List ℕ) → left ≡ bytes → Passing p bytes file₀ marks₀ list₀ left file₀ marks₀ list₀ 0
+  passing_begins left e = record {
+    goes_on = rw e;
     counted = omega arith;
     rest = refl;
     file-size = refl;
@@ -60,23 +51,21 @@ module _ (weights : List ℕ) (K L count : ℕ) (store file₀ marks₀ list₀ 
     list-size = refl;
   }
 
-  module _ (file marks list : List ℕ) (filled i : ℕ) (now : Passing weights K L count store file₀ marks₀ list₀ file marks list filled i) where
-    -- no more than K segments are filled
-    pub few-filled : (n : ℕ) (marks' : List ℕ) → present K marks' ≡ present K marks + n → filled + n ≤ K
-    few-filled n marks' e = omega (arith, now.counted, present-most K marks')
+  module _ (left file marks list : List ℕ) (filled : ℕ) (now : Passing p bytes file₀ marks₀ list₀ left file marks list filled) where
+    -- no more segments are filled than there are
+    pub few-filled : (n : ℕ) (marks' : List ℕ) → present p.plan.segments marks' ≡ present p.plan.segments marks + n → filled + n ≤ p.plan.segments
+    few-filled n marks' e = omega (arith, now.counted, present-most p.plan.segments marks')
 
-    pub passing-turns : i < count → count * record_bytes L ≤ length store → (file' marks' list' : List ℕ) (n : ℕ)
-        → Filled K weights (step L (droplet_of weights K (record_from L (record_at L store i))) (record { file = file; marks = marks })) marks list file' marks' list' n
+    pub passing-turns : (x next : List ℕ) → left ≡ x ++ next → length x ≡ record_bytes p.l → (file' marks' list' : List ℕ) (n : ℕ)
+        → Filled p (step p.l (droplet_of p (record_from p.l x)) (record { file = file; marks = marks })) marks list file' marks' list' n
         → length file' ≡ length file → length marks' ≡ length marks → length list' ≡ length list
-        → Passing weights K L count store file₀ marks₀ list₀ file' marks' list' (filled + n) (i + 1)
-    passing-turns h fits file' marks' list' n stepped f m l =
-        let next = droplets_from weights K L count store (i + 1) in
-        let d = droplet_of weights K (record_from L (record_at L store i)) in
+        → Passing p bytes file₀ marks₀ list₀ next file' marks' list' (filled + n)
+    passing-turns x next split size file' marks' list' n stepped f m l =
+        let d = droplet_of p (record_from p.l x) in
         record {
-          at_most = omega arith;
           goes_on =
-              ap (pass L next) stepped.state ∙ sym (pass-cons L d next (record { file = file; marks = marks }))
-              ∙ ap (λ (ds : List Droplet). pass L ds (record { file = file; marks = marks })) (sym (droplets-next weights K L count store i h fits))
+              ap (pass p.l (droplets_in p next)) stepped.state ∙ sym (pass-cons p.l d (droplets_in p next) (record { file = file; marks = marks }))
+              ∙ ap (λ (ds : List Droplet). pass p.l ds (record { file = file; marks = marks })) (sym (droplets_in-cons p left x next split size))
               ∙ now.goes_on;
           counted = omega (arith, stepped.count, now.counted);
           rest = stepped.rest ∙ now.rest;
@@ -85,12 +74,12 @@ module _ (weights : List ℕ) (K L count : ℕ) (store file₀ marks₀ list₀ 
           list-size = l ∙ now.list-size;
         }
 
-    pub passing-ends : count ≤ i
-        → Filled K weights (pass L (droplets_of weights K L count store) (record { file = file₀; marks = marks₀ })) marks₀ list₀ file marks list filled
+    pub passing-ends : length left < record_bytes p.l
+        → Filled p (pass p.l (droplets_in p bytes) (record { file = file₀; marks = marks₀ })) marks₀ list₀ file marks list filled
     unfolding pass
     passing-ends h = record {
       state =
-          ap (λ (ds : List Droplet). pass L ds (record { file = file; marks = marks })) (sym (droplets-end weights K L count store i h)) ∙ now.goes_on;
+          ap (λ (ds : List Droplet). pass p.l ds (record { file = file; marks = marks })) (sym (droplets_in-short p left h)) ∙ now.goes_on;
       count = now.counted;
       rest = now.rest;
     }
@@ -98,18 +87,24 @@ module _ (weights : List ℕ) (K L count : ℕ) (store file₀ marks₀ list₀ 
 -- ---- the peeling
 
 -- after some passes: those left make of the state now what all make of the state at the start
-pub record PeelingOn (weights : List ℕ) (K L : ℕ) (ds : List Droplet) (file₀ marks₀ list₀ file marks list : List ℕ) (there passes : ℕ) : Type 0 where
-  pub goes_on : peel (suc K - passes) K L ds passes (record { file = file; marks = marks })
-      ≡ peel (suc K) K L ds 0 (record { file = file₀; marks = marks₀ })
-  pub counted : there ≡ present K marks
+pub record PeelingOn (p : Pool) (ds : List Droplet) (file₀ marks₀ list₀ file marks list : List ℕ) (there passes : ℕ) : Type 0 where
+  pub goes_on : peel (suc p.plan.segments - passes) p.plan.segments p.l ds passes (record { file = file; marks = marks })
+      ≡ peel (suc p.plan.segments) p.plan.segments p.l ds 0 (record { file = file₀; marks = marks₀ })
+  pub counted : there ≡ present p.plan.segments marks
   pub few : passes ≤ there
-  pub rest : drop (weight_count weights) list ≡ drop (weight_count weights) list₀
+  pub rest : drop (weight_count p.weights.now) list ≡ drop (weight_count p.weights.now) list₀
   pub file-size : length file ≡ length file₀
   pub marks-size : length marks ≡ length marks₀
   pub list-size : length list ≡ length list₀
 
-module _ (weights : List ℕ) (K L : ℕ) (ds : List Droplet) (file₀ marks₀ list₀ : List ℕ) where
-  pub peeling-begins : present K marks₀ ≡ 0 → PeelingOn weights K L ds file₀ marks₀ list₀ file₀ marks₀ list₀ 0 0
+module _ (p : Pool) (ds : List Droplet) (file₀ marks₀ list₀ : List ℕ) where
+  abbrev K : ℕ
+  K = p.plan.segments
+
+  abbrev L : ℕ
+  L = p.l
+
+  pub peeling-begins : present K marks₀ ≡ 0 → PeelingOn p ds file₀ marks₀ list₀ file₀ marks₀ list₀ 0 0
   peeling-begins none = record {
     goes_on = ap (λ (fuel : ℕ). peel fuel K L ds 0 (record { file = file₀; marks = marks₀ })) (sub-zero (suc K));
     counted = sym none;
@@ -120,7 +115,7 @@ module _ (weights : List ℕ) (K L : ℕ) (ds : List Droplet) (file₀ marks₀ 
     list-size = refl;
   }
 
-  module _ (file marks list : List ℕ) (there passes : ℕ) (now : PeelingOn weights K L ds file₀ marks₀ list₀ file marks list there passes) where
+  module _ (file marks list : List ℕ) (there passes : ℕ) (now : PeelingOn p ds file₀ marks₀ list₀ file marks list there passes) where
     -- the marks bound the passes
     pub few_passes : passes ≤ K
     few_passes = omega (arith, now.few, now.counted, present-most K marks)
@@ -129,7 +124,7 @@ module _ (weights : List ℕ) (K L : ℕ) (ds : List Droplet) (file₀ marks₀ 
     fuel-left = let h = few_passes in omega arith
 
     module _ (file' marks' list' : List ℕ) (n : ℕ)
-        (passed : Filled K weights (pass L ds (record { file = file; marks = marks })) marks list file' marks' list' n) where
+        (passed : Filled p (pass L ds (record { file = file; marks = marks })) marks list file' marks' list' n) where
       pub few-present : there + n ≤ K
       few-present = omega (arith, passed.count, now.counted, present-most K marks')
 
@@ -146,7 +141,7 @@ module _ (weights : List ℕ) (K L : ℕ) (ds : List Droplet) (file₀ marks₀ 
 
       pub peeling-turns : (passes' : ℕ) → passes' ≡ suc passes → 0 < n
           → length file' ≡ length file → length marks' ≡ length marks → length list' ≡ length list
-          → PeelingOn weights K L ds file₀ marks₀ list₀ file' marks' list' (there + n) passes'
+          → PeelingOn p ds file₀ marks₀ list₀ file' marks' list' (there + n) passes'
       peeling-turns passes' more some f m l =
           let other : present K (pass L ds (record { file = file; marks = marks })).marks ≡ present K marks → ⊥ = λ e. omega (arith, after) in
           let less : suc K - suc passes ≡ K - passes = omega arith in
@@ -165,57 +160,53 @@ module _ (weights : List ℕ) (K L : ℕ) (ds : List Droplet) (file₀ marks₀ 
 
 -- ---- the count of contradictions
 
-abbrev pub one : Bool → ℕ
-one true = 1
-one false = 0
-
-pub record Counting (weights : List ℕ) (K L count : ℕ) (store : List ℕ) (st : State) (list₀ list : List ℕ) (n i : ℕ) : Type 0 where
-  pub at_most : i ≤ count
-  pub few : n ≤ i
-  pub goes_on : n + contradictions L (droplets_from weights K L count store i) st ≡ contradictions L (droplets_of weights K L count store) st
-  pub rest : drop (weight_count weights) list ≡ drop (weight_count weights) list₀
+-- with some of the bytes left
+pub record Counting (p : Pool) (bytes : List ℕ) (st : State) (list₀ left list : List ℕ) (n : ℕ) : Type 0 where
+  pub few : n + length left ≤ length bytes
+  pub goes_on : n + contradictions p.l (droplets_in p left) st ≡ contradictions p.l (droplets_in p bytes) st
+  pub rest : drop (weight_count p.weights.now) list ≡ drop (weight_count p.weights.now) list₀
   pub list-size : length list ≡ length list₀
 
-module _ (weights : List ℕ) (K L count : ℕ) (store : List ℕ) (st : State) (list₀ : List ℕ) where
-  pub counting-begins : Counting weights K L count store st list₀ list₀ 0 0
-  counting-begins = record {
-    at_most = omega arith;
-    few = omega arith;
-    goes_on = let e = ap (λ (ds : List Droplet). contradictions L ds st) (droplets-all weights K L count store) in omega arith;
+module _ (p : Pool) (bytes : List ℕ) (st : State) (list₀ : List ℕ) where
+  pub counting-begins : (left : List ℕ) → left ≡ bytes → Counting p bytes st list₀ left list₀ 0
+  counting-begins left e = record {
+    few = omega (arith, ap length e);
+    goes_on = rw e (omega arith);
     rest = refl;
     list-size = refl;
   }
 
-  module _ (list : List ℕ) (n i : ℕ) (now : Counting weights K L count store st list₀ list n i) where
-    counted_next : (b : Bool) (d : Droplet) (ds : List Droplet) → b ≡ contradicts L st d
-        → contradictions L (d ∷ ds) st ≡ one b + contradictions L ds st
+  module _ (left list : List ℕ) (n : ℕ) (now : Counting p bytes st list₀ left list n) where
+    counted_next : (b : Bool) (d : Droplet) (ds : List Droplet) → b ≡ contradicts p.l st d
+        → contradictions p.l (d ∷ ds) st ≡ from_bool b + contradictions p.l ds st
     unfolding contradictions
     counted_next true d ds e = rw (sym e) (omega arith)
     counted_next false d ds e = rw (sym e) (omega arith)
 
-    pub counting-turns : i < count → count * record_bytes L ≤ length store → (list' : List ℕ) (b : Bool) (m : ℕ)
-        → b ≡ contradicts L st (droplet_of weights K (record_from L (record_at L store i))) → m ≡ n + one b
-        → drop (weight_count weights) list' ≡ drop (weight_count weights) list → length list' ≡ length list
-        → Counting weights K L count store st list₀ list' m (i + 1)
-    counting-turns h fits list' b m e g r l =
-        let next = droplets_from weights K L count store (i + 1) in
-        let d = droplet_of weights K (record_from L (record_at L store i)) in
-        let here = ap (λ (ds : List Droplet). contradictions L ds st) (droplets-next weights K L count store i h fits) ∙ counted_next b d next e in
+    pub counting-turns : (x next : List ℕ) → left ≡ x ++ next → length x ≡ record_bytes p.l → (list' : List ℕ) (b : Bool)
+        → b ≡ contradicts p.l st (droplet_of p (record_from p.l x))
+        → drop (weight_count p.weights.now) list' ≡ drop (weight_count p.weights.now) list → length list' ≡ length list
+        → Counting p bytes st list₀ next list' (n + from_bool b)
+    counting-turns x next split size list' b e r l =
+        let here =
+        ap (λ (ds : List Droplet). contradictions p.l ds st) (droplets_in-cons p left x next split size) ∙ counted_next b _ (droplets_in p next) e in
         record {
-          at_most = omega arith;
-          few = few-more b g;
+          few = few-more b;
           goes_on = omega (arith, here, now.goes_on);
           rest = r ∙ now.rest;
           list-size = l ∙ now.list-size;
         }
       where
-        few-more : (b : Bool) → m ≡ n + one b → m ≤ i + 1
-        few-more true g = omega (arith, now.few)
-        few-more false g = omega (arith, now.few)
+        shorter : length left ≡ length x + length next
+        shorter = ap length split ∙ length-append x next
 
-    pub counting-ends : count ≤ i → n ≡ contradictions L (droplets_of weights K L count store) st
+        few-more : (b : Bool) → n + from_bool b + length next ≤ length bytes
+        few-more true = omega (arith, now.few, shorter, size, width-some p.l)
+        few-more false = omega (arith, now.few, shorter)
+
+    pub counting-ends : length left < record_bytes p.l → n ≡ contradictions p.l (droplets_in p bytes) st
     unfolding contradictions
     counting-ends h =
-        let e = ap (λ (ds : List Droplet). contradictions L ds st) (droplets-end weights K L count store i h) in
-        let z : contradictions L (droplets_from weights K L count store i) st ≡ 0 = e in
+        let e = ap (λ (ds : List Droplet). contradictions p.l ds st) (droplets_in-short p left h) in
+        let z : contradictions p.l (droplets_in p left) st ≡ 0 = e in
         omega (arith, now.goes_on)

@@ -1,26 +1,30 @@
--- A search of the records for a seed: found, passed, and the end. Assumes nothing.
-use mathlib.Core.Path.{◌≡◌}
+-- A search of records for a seed: found, passed, and the end. Assumes nothing.
+use mathlib.Core.Path.{◌≡◌, ap}
 use mathlib.Core.Bool.{true, false}
-use mathlib.Core.List.{List}
-use Prim.Native.Nat.{ℕ, ◌+◌, ◌*◌, ◌≤◌, ◌<◌}
+use mathlib.Core.List.{List, ◌++◌}
+use Prim.Native.Nat.{ℕ, ◌*◌, ◌≤◌, ◌<◌}
 use borrow.Author.Tests.{eq-eqb, ne_eqb}
-use lib.ListN.{length}
-use Rattle.decoder.specs.Store.{record_bytes, record_seed, record_from}
+use lib.ListN.{length, take}
+use Rattle.decoder.specs.Store.{record_bytes, record_seed, record_from, records}
 use Rattle.decoder.specs.Restorer.{has_seed}
-use Rattle.decoder.specs.Loops.{record_at}
-use Rattle.decoder.proofs.RecordsAt.{records_from, records-next, records-end}
+use Rattle.decoder.specs.Loops.{records_in}
+use Rattle.decoder.proofs.RecordsIn.{records_in-cons, records_in-short, records_in-first}
 
-module _ (L count : ℕ) (store : List ℕ) (s i : ℕ) where
-  module _ (h : i < count) (fits : count * record_bytes L ≤ length store) where
-    pub seed-here : record_seed (record_at L store i) ≡ s → has_seed s (records_from L count store i) ≡ true
+-- the first records of a store
+pub seed_in-first : (L s count : ℕ) (store first : List ℕ) → count * record_bytes L ≤ length store → first ≡ take (count * record_bytes L) store
+    → has_seed s (records_in L first) ≡ has_seed s (records L count store)
+seed_in-first L s count store first fits e = rw e (ap (has_seed s) (records_in-first L count store fits))
+
+module _ (L s : ℕ) (bytes : List ℕ) where
+  module _ (x rest : List ℕ) (e : bytes ≡ x ++ rest) (size : length x ≡ record_bytes L) where
+    pub seed-here : record_seed x ≡ s → has_seed s (records_in L bytes) ≡ true
     unfolding has_seed record_from
-    seed-here e = rw (records-next L count store i h fits, eq-eqb _ _ e)
+    seed-here same = rw (records_in-cons L bytes x rest e size, eq-eqb _ _ same)
 
-    pub seed-past : (record_seed (record_at L store i) ≡ s → ⊥)
-        → has_seed s (records_from L count store i) ≡ has_seed s (records_from L count store (i + 1))
+    pub seed-past : (record_seed x ≡ s → ⊥) → has_seed s (records_in L bytes) ≡ has_seed s (records_in L rest)
     unfolding has_seed record_from
-    seed-past n = rw (records-next L count store i h fits, ne_eqb _ _ n)
+    seed-past other = rw (records_in-cons L bytes x rest e size, ne_eqb _ _ other)
 
-  pub seed-end : count ≤ i → has_seed s (records_from L count store i) ≡ false
+  pub seed-end : length bytes < record_bytes L → has_seed s (records_in L bytes) ≡ false
   unfolding has_seed
-  seed-end h = rw (records-end L count store i h)
+  seed-end h = rw (records_in-short L bytes h)

@@ -7,6 +7,7 @@ use native.Mathlib.Omega.{arith}
 use borrow.Author.Tests.{eqb-true}
 use lib.Dec.{eqb}
 use lib.ListN.{length}
+use Rattle.std.specs.Prelude.{Ok}
 use Rattle.field.specs.Bytes.{All, AllBytes}
 use Rattle.field.proofs.Tests.{either}
 use Rattle.droplet.specs.declared.card.Card.{Card}
@@ -16,7 +17,6 @@ use Rattle.droplet.specs.Droplet.{segments_of, Distinct}
 use Rattle.droplet.proofs.LegalCard.{legal}
 use Rattle.droplet.proofs.Sets.{segments-below, segments-distinct}
 use Rattle.decoder.specs.declared.restorer.Sheet.{Sheet}
-use Rattle.decoder.specs.declared.restorer.RestoreAnswer.TheVariants as sheet
 use Rattle.decoder.specs.Restorer.{Droplet, droplets, present, Peeled, peeled, peeled_passes, peeled_state, peel_all, contradictions, restore_refusal, restored, refusal, sheet_of, restore, RestorePromise}
 use Rattle.decoder.specs.Demand3.{Sound}
 use Rattle.decoder.proofs.PoolShapes.{Peelable, state_after}
@@ -85,7 +85,7 @@ module _ (c : Card) (weights : List ℕ) (fine : card_refusal c weights ≡ 0) w
       }
 
   pub restore-ends : (buffer : List ℕ) (count : ℕ) (file marks list : List ℕ) (r : Sheet) (file' marks' list' : List ℕ)
-      → RestorePromise c weights buffer count file marks list (sheet.Restored r) file' marks' list'
+      → RestorePromise c weights buffer count file marks list (Ok r) file' marks' list'
       → Ended (segment_count c) c.l (droplets c weights buffer count) file marks r file' marks'
   unfolding restore
   restore-ends buffer count file marks list r file' marks' list' p =
@@ -110,7 +110,7 @@ module _ (c : Card) (weights : List ℕ) (fine : card_refusal c weights ≡ 0) w
       ]
 
   pub restore-sound : (buffer : List ℕ) (count : ℕ) (file marks list : List ℕ) (r : Sheet) (file' marks' list' : List ℕ) → AllBytes buffer
-      → RestorePromise c weights buffer count file marks list (sheet.Restored r) file' marks' list'
+      → RestorePromise c weights buffer count file marks list (Ok r) file' marks' list'
       → Sound (segment_count c) c.l (droplets c weights buffer count) r.present r.passes r.contradictions file' marks'
   restore-sound buffer count file marks list r file' marks' list' bytes p =
       let end = restore-ends buffer count file marks list r file' marks' list' p in

@@ -14,13 +14,16 @@ use Rattle.droplet.specs.declared.card.Card.{Card}
 use Rattle.droplet.specs.Droplet.{member}
 use Rattle.droplet.specs.Questions.{card_refusal}
 use Rattle.strand.specs.ReadCheck.{Reading, droplet, refused, read_check}
+use Rattle.std.proofs.Common.{Result, Ok, Err}
+use Rattle.droplet.specs.declared.refusal.Refusal.{Refusal}
 use Rattle.decoder.specs.declared.store.StoreAnswer.{StoreAnswer}
 use Rattle.decoder.specs.declared.store.StoreAnswer.TheVariants as reply
-use Rattle.decoder.specs.Store.{LegalRead, Record, records_text, records, Stored, accepted, replaced, repeat, refusal, store_answer, kept_answer, kept_buffer, full_count, count_fits, store_read, StorePromise}
+use Rattle.decoder.specs.Store.{LegalRead, Record, records_text, records, Stored, store_answer, kept_answer, kept_buffer, full_count, count_fits, store_read, StorePromise}
 use Rattle.decoder.specs.Demand3.{seeds_of, reads_in, kept_reading, legal_reads, first_seeds, stored_seeds, best_of_each, Holds, Call, reads_of, next_count, Chained, last_buffer, last_count, answered, not20, reads_with, calls_with, taken_reads, counted_record, stored_records, Best, total_count}
 use Rattle.decoder.proofs.LegalRead.{read-recordable}
 use Rattle.decoder.proofs.ReadRefusals.{read_number}
 use Rattle.decoder.proofs.BestReads.{BestIn, best-each}
+use Rattle.decoder.proofs.StoreAnswers.{answer_of, answer_back, call_answers}
 use Rattle.decoder.proofs.StoreSteps.{Step}
 use Rattle.decoder.proofs.StoreCall.{room, count_after, Stocked, Moved, held-records, held_fits, reading-moves}
 use Rattle.decoder.proofs.Account.{Account, empty-account, seen_after, reads_after, step-account}
@@ -28,11 +31,11 @@ use Rattle.decoder.proofs.ReadCounts.{Counted, empty-counted, counted_back, numb
 
 -- ---- one call
 
-count_next : (count : ℕ) (a : StoreAnswer) → next_count count a ≡ count_after count (store_answer a)
-count_next count (reply.Accepted n) = refl
-count_next count (reply.Replaced n) = refl
-count_next count (reply.Repeat n) = refl
-count_next count (reply.Refused q) = refl
+count_next : (count : ℕ) (a : Result StoreAnswer Refusal) → next_count count a ≡ count_after count (store_answer a)
+count_next count (Ok (reply.Accepted n)) = refl
+count_next count (Ok (reply.Replaced n)) = refl
+count_next count (Ok (reply.Repeat n)) = refl
+count_next count (Err q) = refl
 
 -- what a call leaves of a store that holds records
 pub record Stepped (c : Card) (weights lent : List ℕ) (rs : List Record) (count : ℕ) (k : Call) : Type 0 where
@@ -189,19 +192,6 @@ module _ (c : Card) (weights : List ℕ) (fine : card_refusal c weights ≡ 0) (
 
 -- ---- the calls of a list of reads
 
-answer_of : Stored → StoreAnswer
-answer_of (accepted n) = reply.Accepted n
-answer_of (replaced n) = reply.Replaced n
-answer_of (repeat n) = reply.Repeat n
-answer_of (refusal q) = reply.Refused q
-
-answer_back : (a : Stored) → store_answer (answer_of a) ≡ a
-unfolding answer_of
-answer_back (accepted n) = refl
-answer_back (replaced n) = refl
-answer_back (repeat n) = refl
-answer_back (refusal q) = refl
-
 module _ (c : Card) (weights : List ℕ) where
   call_of : List ℕ → ℕ → List ℕ → Call
   call_of buffer count read =
@@ -215,6 +205,6 @@ module _ (c : Card) (weights : List ℕ) where
       let k = call_of buffer count r in
       let rest = chain-exists rs k.buffer (next_count count k.answer) in (
         k ∷ rest.0,
-        (record { says = answer_back (kept_answer (store_read c weights buffer count r)); leaves = refl }, rest.1),
+        (record { says = answer_back _ (call_answers c weights buffer count r); leaves = refl }, rest.1),
         ap (λ (l : List (List ℕ)). r ∷ l) rest.2,
       )

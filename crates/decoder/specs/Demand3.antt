@@ -1,16 +1,17 @@
 -- Demand 3, its opening sentence as document 02's Item 5 restates it, with the counts of Item 6, as one claim about every list of store
 -- calls and every restore under one accepted card. Assumes nothing.
-use Rattle.std.specs.Prelude.{◌≡◌, ◌↔◌, Bool, true, false, cond, not, ◌&&◌, List, [], ◌∷◌, ◌++◌, map, ℕ, suc, ◌+◌, ◌*◌, ◌/◌, ◌<◌, ◌≤◌, eqb, length, take, drop}
+use Rattle.std.specs.Prelude.{◌≡◌, ◌↔◌, Bool, true, false, cond, not, ◌&&◌, List, [], ◌∷◌, ◌++◌, map, ℕ, suc, ◌+◌, ◌*◌, ◌/◌, ◌<◌, ◌≤◌, eqb, length, take, drop, Result, Ok, Err}
 use Rattle.field.specs.Bytes.{All, AllBytes}
 use Rattle.droplet.specs.declared.card.Card.{Card}
 use Rattle.droplet.specs.PoolCard.{segment_count, card_weights}
 use Rattle.droplet.specs.Questions.{CardRead, card_reading}
 use Rattle.droplet.specs.Droplet.{member, segment, payload, segments_of, Distinct}
 use Rattle.strand.specs.ReadCheck.{Reading, droplet, refused, read_check}
+use Rattle.droplet.specs.declared.refusal.Refusal.{Refusal}
+use Rattle.droplet.specs.declared.refusal.Refusal.TheVariants.{FullCount}
 use Rattle.decoder.specs.declared.store.StoreAnswer.{StoreAnswer}
 use Rattle.decoder.specs.declared.store.StoreAnswer.TheVariants as reply
 use Rattle.decoder.specs.declared.restorer.Sheet.{Sheet}
-use Rattle.decoder.specs.declared.restorer.RestoreAnswer.TheVariants as sheet
 use Rattle.decoder.specs.Store.{LegalRead, Record, record_bytes, records_text, records, Stored, accepted, repeat, replaced, refusal, store_answer, full_count, droplet_read, StorePromise}
 use Rattle.decoder.specs.Restorer.{Droplet, droplets, marked, present, RestorePromise}
 
@@ -75,7 +76,7 @@ pub record Holds (L : ℕ) (lent : List ℕ) (rs : List Record) (buffer : List �
 -- one store call: the read offered, the answer, and the buffer after it
 pub record Call : Type 0 where
   pub read : List ℕ
-  pub answer : StoreAnswer
+  pub answer : Result StoreAnswer Refusal
   pub buffer : List ℕ
 
 abbrev pub reads_of : List Call → List (List ℕ)
@@ -84,11 +85,11 @@ reads_of (k ∷ ks) = k.read ∷ reads_of ks
 
 -- "Every answer but a refusal carries the count after it, which the next call is handed; after a refusal the next call is
 -- handed the count from before"
-abbrev pub next_count : ℕ → StoreAnswer → ℕ
-next_count count (reply.Accepted n) = n
-next_count count (reply.Repeat n) = n
-next_count count (reply.Replaced n) = n
-next_count count (reply.Refused q) = count
+abbrev pub next_count : ℕ → Result StoreAnswer Refusal → ℕ
+next_count count (Ok (reply.Accepted n)) = n
+next_count count (Ok (reply.Repeat n)) = n
+next_count count (Ok (reply.Replaced n)) = n
+next_count count (Err q) = count
 
 -- "Each call is handed shelf and count as the one before left them", and keeps the promise of the store call
 unfoldable pub Chained : Card → List ℕ → List ℕ → ℕ → List Call → Type 0
@@ -201,7 +202,7 @@ pub record Claim (c : Card) (weights : List ℕ) : Type 0 where
       → total_count (stored_records c weights lent calls) ≡ calls_with answered calls
   -- with no more calls than a count can count none is refused under 20, so that those are all legal reads
   pub never_20 : (lent : List ℕ) (calls : List Call) → Chained c weights lent 0 calls → length calls ≤ full_count
-      → All (λ k. k.answer ≡ reply.Refused 20 → ⊥) calls × (reads_with not20 c weights calls ≡ legal_reads c weights (reads_of calls))
+      → All (λ k. k.answer ≡ Err FullCount → ⊥) calls × (reads_with not20 c weights calls ≡ legal_reads c weights (reads_of calls))
   -- such a list of calls exists for every list of reads, whatever bytes each offers
   pub calls : (lent : List ℕ) (reads : List (List ℕ)) → (calls : List Call) × Chained c weights lent 0 calls × (reads_of calls ≡ reads)
   -- the sets that seeds pick hold each segment once, and only segments of the pool
@@ -209,7 +210,7 @@ pub record Claim (c : Card) (weights : List ℕ) : Type 0 where
       × Distinct (segments_of weights (segment_count c) seed)
   -- every restore that is not refused, over this store or any other
   pub back : (buffer : List ℕ) (count : ℕ) (file marks list : List ℕ) (r : Sheet) (file' marks' list' : List ℕ) → AllBytes buffer
-      → RestorePromise c weights buffer count file marks list (sheet.Restored r) file' marks' list'
+      → RestorePromise c weights buffer count file marks list (Ok r) file' marks' list'
       → Sound (segment_count c) c.l (droplets c weights buffer count) r.present r.passes r.contradictions file' marks'
 
 -- "under one accepted card": one that the card reader does not refuse, its numbers and weights handed to every call

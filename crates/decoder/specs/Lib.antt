@@ -4,3 +4,4 @@ pub mod Demand3
 pub mod Among
 pub mod Loops
 pub mod StoreLoops
+pub mod Pools

@@ -1,12 +1,13 @@
 -- Document 01, "Restorer", and its questions 14, 17, 18 and 8. Assumes nothing.
-use Rattle.std.specs.Prelude.{◌≡◌, Bool, true, false, cond, not, ◌&&◌, List, [], ◌∷◌, ◌++◌, map, ℕ, zero, suc, ◌+◌, ◌*◌, eqb, leb, length, get_or, take, drop, set, replicate}
+use Rattle.std.specs.Prelude.{◌≡◌, Bool, true, false, cond, not, ◌&&◌, List, [], ◌∷◌, ◌++◌, map, ℕ, zero, suc, ◌+◌, ◌*◌, eqb, leb, length, get_or, take, drop, set, replicate, Result, Ok, Err}
 use Rattle.field.specs.Bytes.{xor_lists, same_bytes}
 use Rattle.droplet.specs.declared.card.Card.{Card}
 use Rattle.droplet.specs.PoolCard.{segment_count, weight_count}
 use Rattle.droplet.specs.Questions.{card_refusal}
 use Rattle.droplet.specs.Droplet.{segments_of, payload}
-use Rattle.decoder.specs.declared.restorer.RestoreAnswer.{RestoreAnswer}
-use Rattle.decoder.specs.declared.restorer.RestoreAnswer.TheVariants as answer
+use Rattle.droplet.specs.declared.refusal.Refusal.{Refusal}
+use Rattle.droplet.specs.Refusals.{refusal_number}
+use Rattle.decoder.specs.declared.restorer.Sheet.{Sheet}
 use Rattle.decoder.specs.Store.{Record, records, count_fits}
 
 -- "The droplets on a shelf are its records, each with the set that its seed picks"
@@ -126,9 +127,9 @@ pub data Restored : Type 0 where
   restored : ℕ → ℕ → ℕ → Restored
   refusal : ℕ → Restored
 
-abbrev pub restore_answer : RestoreAnswer → Restored
-restore_answer (answer.Restored s) = restored s.present s.passes s.contradictions
-restore_answer (answer.Refused n) = refusal n
+abbrev pub restore_answer : Result Sheet Refusal → Restored
+restore_answer (Ok s) = restored s.present s.passes s.contradictions
+restore_answer (Err q) = refusal (refusal_number q)
 
 -- the sheet of a peeled state
 abbrev pub sheet_of : ℕ → ℕ → List Droplet → Peeled → Restored
@@ -153,7 +154,7 @@ restore c weights buffer count file marks list_length =
     (restore_end (refusal no) (record { file = file; marks = marks }))
 
 -- the promise of a restore: its answer, file and marks at exit, and the number list, free in its first D places alone
-pub record RestorePromise (c : Card) (weights buffer : List ℕ) (count : ℕ) (file marks list : List ℕ) (r : RestoreAnswer)
+pub record RestorePromise (c : Card) (weights buffer : List ℕ) (count : ℕ) (file marks list : List ℕ) (r : Result Sheet Refusal)
     (file' marks' list' : List ℕ) : Type 0 where
   pub says : restore_answer r ≡ end_answer (restore c weights buffer count file marks (length list))
   pub fills : file' ≡ (end_state (restore c weights buffer count file marks (length list))).file

@@ -1,10 +1,12 @@
 -- Document 01, "Shelf", here a store: a buffer and a count of records from its start, and the store call with its questions 14 to 16 and 20,
 -- as document 02's Items 5 ("Clean beats mended") and 6 ("Read counts on the lane sheet") leave them. Assumes nothing.
-use Rattle.std.specs.Prelude.{◌≡◌, Bool, cond, not, ◌&&◌, List, [], ◌∷◌, ◌++◌, ℕ, zero, suc, ◌+◌, ◌*◌, eqb, leb, length, get_or, take, drop}
+use Rattle.std.specs.Prelude.{◌≡◌, Bool, cond, not, ◌&&◌, List, [], ◌∷◌, ◌++◌, ℕ, zero, suc, ◌+◌, ◌*◌, eqb, leb, length, get_or, take, drop, Result, Ok, Err}
 use Rattle.field.specs.Bytes.{from_big_endian, to_big_endian, same_bytes}
 use Rattle.droplet.specs.declared.card.Card.{Card}
 use Rattle.droplet.specs.Questions.{card_refusal}
 use Rattle.strand.specs.ReadCheck.{Reading, droplet, refused, read_check}
+use Rattle.droplet.specs.declared.refusal.Refusal.{Refusal}
+use Rattle.droplet.specs.Refusals.{refusal_number}
 use Rattle.decoder.specs.declared.store.StoreAnswer.{StoreAnswer}
 use Rattle.decoder.specs.declared.store.StoreAnswer.TheVariants as answer
 
@@ -93,11 +95,11 @@ pub data Stored : Type 0 where
   replaced : ℕ → Stored
   refusal : ℕ → Stored
 
-abbrev pub store_answer : StoreAnswer → Stored
-store_answer (answer.Accepted n) = accepted n
-store_answer (answer.Repeat n) = repeat n
-store_answer (answer.Replaced n) = replaced n
-store_answer (answer.Refused q) = refusal q
+abbrev pub store_answer : Result StoreAnswer Refusal → Stored
+store_answer (Ok (answer.Accepted n)) = accepted n
+store_answer (Ok (answer.Repeat n)) = repeat n
+store_answer (Ok (answer.Replaced n)) = replaced n
+store_answer (Err q) = refusal (refusal_number q)
 
 -- the answer with the buffer after the call
 pub data Kept : Type 0 where
@@ -177,6 +179,6 @@ store_read c weights buffer count read =
     (kept (refusal (card_refusal c weights)) buffer)
 
 -- the promise of the store call: its answer and the buffer at exit
-pub record StorePromise (c : Card) (weights buffer : List ℕ) (count : ℕ) (read : List ℕ) (r : StoreAnswer) (buffer' : List ℕ) : Type 0 where
+pub record StorePromise (c : Card) (weights buffer : List ℕ) (count : ℕ) (read : List ℕ) (r : Result StoreAnswer Refusal) (buffer' : List ℕ) : Type 0 where
   pub says : store_answer r ≡ kept_answer (store_read c weights buffer count read)
   pub leaves : buffer' ≡ kept_buffer (store_read c weights buffer count read)

@@ -2,33 +2,36 @@ ghost use Rattle.std.specs.Prelude.{◌≡◌, ◌+◌, ◌≤◌, length};
 ghost use Rattle.strand.specs.ReadCheck.{letters_reading};
 ghost use Rattle.strand.specs.Loops.{InRange};
 ghost use Rattle.decoder.specs.Store.{reads_clean, takes_over, record_bytes, count_fits, appended, store_record, store_reading, StorePromise};
-ghost use Rattle.decoder.specs.StoreLoops.{Within, Sought, Keeps, Counts, refusal_number};
+ghost use Rattle.decoder.specs.StoreLoops.{Within, legal_read, Sought, Keeps, Counts};
 
 use crate::records::{
-    count_in, payload_in, put_count, put_record, record_bytes, replace_evidence, state_in,
+    count_in, payload_in, put_count, put_record, record_at, record_bytes, replace_evidence,
+    state_in,
 };
 use droplet::card;
-use droplet::card::{Card, PlanAnswer};
-use field::bytes::starts_with;
+use droplet::card::Card;
+use droplet::refusal::Refusal;
 use strand::droplet_bytes::seed_of;
 use strand::read_check;
-use strand::read_check::ReadOutcome;
 
-// What a store call answers: the count after it, or the number of the question that refused the read.
-#[derive(Clone, Copy)]
+// What became of a read that was not refused, with the count of records after the call.
+#[derive(Clone, Copy, Debug, PartialEq, Eq)]
 pub enum StoreAnswer {
     Accepted(usize),
     Repeat(usize),
     Replaced(usize),
-    Refused(u8),
 }
 
-// Where the first record of a seed starts, if there is one.
+// A legal read: the droplet of its strand, and whether the read was clean.
 #[derive(Clone, Copy)]
-enum Place {
-    At(usize),
-    Nowhere,
+struct Read<'a> {
+    seed: u32,
+    payload: &'a [u8],
+    clean: bool,
 }
+
+// The store's bytes, L and the count of records are handed on one by one, as C hands them in: a struct of them would hold a `&mut`, and each
+// method would have to promise beside its own clause that it is still the same reference.
 
 // Question 14. The product could pass the largest number, the quotient cannot.
 pub fn count_fits(store: &[u8], l: usize, count: usize) -> bool
@@ -38,128 +41,95 @@ pub fn count_fits(store: &[u8], l: usize, count: usize) -> bool
     count <= store.len() / record_bytes(l)
 }
 
-// The first record of a seed. This is the longest loop of a store call: it looks at the seeds alone, two records a turn, and keeps
-// the place of the record instead of computing it from the number.
-fn find_seed(store: &[u8], l: usize, count: usize, seed: u32) -> Place
+// Where the first record of a seed starts, if there is one.
+fn find_seed(store: &[u8], l: usize, count: usize, seed: u32) -> Option<usize>
     requires { Within l count store.now }
     ensures { Sought l count store.now seed result }
 {
-    let width = record_bytes(l);
-    let mut left = count;
-    let mut at = 0;
-    while 1 < left {
-        if seed_of(&store[at..]) == seed {
-            return Place::At(at);
-        }
-        let next = at + width;
-        if seed_of(&store[next..]) == seed {
-            return Place::At(next);
-        }
-        at = next + width;
-        left -= 2;
-    }
-    if left == 1 {
-        if seed_of(&store[at..]) == seed {
-            return Place::At(at);
+    for i in 0..count {
+        if seed_of(record_at(store, l, i)) == seed {
+            return Some(i * record_bytes(l));
         }
     }
-    Place::Nowhere
+    None
 }
 
-// Appends a record, if there is space for it: question 16.
-fn append(store: &mut [u8], count: usize, seed: u32, payload: &[u8], clean: bool) -> StoreAnswer
-    requires { Within (length payload.now) count store.old }
-    ensures { Keeps (appended (length payload.now) store.old count (record { seed = seed; payload = payload.now; clean = clean })) result store.new }
+// Appends a record of a read, if there is space for it: question 16.
+fn append(store: &mut [u8], count: usize, read: Read) -> Result<StoreAnswer, Refusal>
+    requires { Within (length read.payload.now) count store.old }
+    ensures { Keeps (appended (length read.entry.payload.now) store.old count (legal_read read.entry)) result store.new }
 {
-    let width = record_bytes(payload.len());
+    let width = record_bytes(read.payload.len());
     let at = count * width;
     if store.len() - at < width {
-        return StoreAnswer::Refused(16);
+        return Err(Refusal::NoSpace);
     }
-    let end = at + width;
-    put_record(seed, payload, clean, &mut store[at..end]);
-    StoreAnswer::Accepted(count + 1)
+    put_record(
+        read.seed,
+        read.payload,
+        read.clean,
+        &mut store[at..at + width],
+    );
+    Ok(StoreAnswer::Accepted(count + 1))
 }
 
 // Whether a read takes over the record of its seed: a clean read, where the record's state byte is not that of a clean one.
 fn takes_over(clean: bool, state: u8) -> bool
     ensures { result ≡ takes_over clean (reads_clean state) }
 {
-    if clean {
-        return state != 0;
-    }
-    false
+    clean && state != 0
 }
 
 // Counts one read more behind the record that starts at a place, unless its count is full: question 20.
-fn count_again(store: &mut [u8], at: usize, l: usize) -> bool
+fn count_again(store: &mut [u8], at: usize, l: usize) -> Result<(), Refusal>
     requires { (l ≤ 64) × (at + record_bytes l ≤ length store.old) }
     ensures { Counts l at store.old result store.new }
 {
     let behind = count_in(&store[at..], l);
     if behind == u32::MAX {
-        return false;
+        return Err(Refusal::FullCount);
     }
     put_count(store, at, l, behind + 1);
-    true
+    Ok(())
 }
 
-// Takes a droplet in: it takes over the first record of its seed, or question 15 compares them, then question 20; and where there is none
+// Takes a read in: it takes over the first record of its seed, or question 15 compares them, then question 20; and where there is none
 // question 16.
-fn store_droplet(
-    store: &mut [u8],
-    count: usize,
-    seed: u32,
-    payload: &[u8],
-    clean: bool,
-) -> StoreAnswer
-    requires { Within (length payload.now) count store.old }
-    ensures { Keeps (store_record (length payload.now) store.old count (record { seed = seed; payload = payload.now; clean = clean })) result store.new }
+fn store_legal(store: &mut [u8], count: usize, read: Read) -> Result<StoreAnswer, Refusal>
+    requires { Within (length read.payload.now) count store.old }
+    ensures { Keeps (store_record (length read.entry.payload.now) store.old count (legal_read read.entry)) result store.new }
 {
-    let Place::At(at) = find_seed(store, payload.len(), count, seed) else {
-        return append(store, count, seed, payload, clean);
+    let payload = read.payload;
+    let l = payload.len();
+    let Some(at) = find_seed(store, l, count, read.seed) else {
+        return append(store, count, read);
     };
-    if takes_over(clean, state_in(&store[at..], payload.len())) {
-        if count_again(store, at, payload.len()) {
-            replace_evidence(store, at, payload, clean);
-            return StoreAnswer::Replaced(count);
-        }
-        return StoreAnswer::Refused(20);
+    if takes_over(read.clean, state_in(&store[at..], l)) {
+        count_again(store, at, l)?;
+        replace_evidence(store, at, payload, read.clean);
+        return Ok(StoreAnswer::Replaced(count));
     }
-    if starts_with(payload_in(&store[at..], payload.len()), payload) {
-        if count_again(store, at, payload.len()) {
-            return StoreAnswer::Repeat(count);
-        }
-        return StoreAnswer::Refused(20);
+    if payload_in(&store[at..], l) != payload {
+        return Err(Refusal::OtherPayload);
     }
-    StoreAnswer::Refused(15)
-}
-
-// The number of the question that refused a read; 0 where none did.
-fn refusal_of(outcome: ReadOutcome) -> u8
-    ensures { result ≡ refusal_number outcome }
-{
-    match outcome {
-        ReadOutcome::Droplet(_) => 0,
-        ReadOutcome::Refused(n) => n,
-    }
+    count_again(store, at, l)?;
+    Ok(StoreAnswer::Repeat(count))
 }
 
 // The questions 9 to 13, 15, 20 and 16: the droplet is taken out of the read check's answer, or its refusal is handed on. The card's
 // own questions have been asked.
-fn offer(card: Card, store: &mut [u8], count: usize, read: &[u8]) -> StoreAnswer
+fn offer(card: Card, store: &mut [u8], count: usize, read: &[u8]) -> Result<StoreAnswer, Refusal>
     requires { Within card.l count store.old × InRange card }
     ensures { Keeps (store_reading card.l store.old count (letters_reading card read.now)) result store.new }
 {
-    let answer = read_check::check_strand(card, read);
-    let outcome = answer.outcome;
-    let payload = answer.payload;
-    let clean = answer.corrected == 0;
-    let ReadOutcome::Droplet(seed) = outcome else {
-        return StoreAnswer::Refused(refusal_of(outcome));
-    };
+    let droplet = read_check::check_strand(card, read)?;
     let l = card.l as usize;
-    store_droplet(store, count, seed, &payload[..l], clean)
+    let legal = Read {
+        seed: droplet.seed,
+        payload: &droplet.payload[..l],
+        clean: droplet.corrected == 0,
+    };
+    store_legal(store, count, legal)
 }
 
 // Offers a read to the store: the questions 2 to 4, 27, 14, and then those of the read and its record. The next call is handed the
@@ -170,14 +140,12 @@ pub fn store_read(
     store: &mut [u8],
     count: usize,
     read: &[u8],
-) -> StoreAnswer
+) -> Result<StoreAnswer, Refusal>
     ensures { StorePromise card weights.now store.old count read.now result store.new }
 {
-    if let PlanAnswer::Refused(n) = card::check_plan(card, weights) {
-        return StoreAnswer::Refused(n);
+    card::check_plan(card, weights)?;
+    if !count_fits(store, card.l as usize, count) {
+        return Err(Refusal::Count);
     }
-    if count_fits(store, card.l as usize, count) {
-        return offer(card, store, count, read);
-    }
-    StoreAnswer::Refused(14)
+    offer(card, store, count, read)
 }

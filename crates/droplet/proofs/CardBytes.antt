@@ -1,16 +1,14 @@
 -- The bytes of a card: what stands before the weights and behind them, what the reader finds at its places, and what a well-formed
 -- card is made of. Assumes nothing.
 use mathlib.Core.Path.{◌≡◌, refl, sym, ap, ◌∙◌}
-use mathlib.Core.Bool.{Bool, true, false, cond, false≢true, ◌&&◌}
+use mathlib.Core.Bool.{Bool, true, false, cond, ◌&&◌}
 use mathlib.Core.List.{List, [], ◌∷◌, ◌++◌}
-use mathlib.Core.Logic.{inl, inr}
 use Prim.Native.Nat.{ℕ, ◌+◌, ◌-◌, ◌%◌, ◌^◌, ◌≤◌, ◌<◌}
 use native.Mathlib.Omega.{arith}
+use Rattle.std.proofs.lemmas.Bool.Decides.{nat_tests}
 use lib.ListN.{length, take, drop, length-take, length-drop, length-append, take-append-drop}
-use lib.Seq.{take_all, length-take-le, take-append_seam, drop-append_seam, drop-drop}
-use borrow.Author.Tests.{le-leb, lt-leb}
+use lib.Seq.{length-take-le, take-append_seam, drop-append_seam, drop-drop}
 use Rattle.field.specs.Bytes.{from_big_endian, to_big_endian, same_bytes}
-use Rattle.field.proofs.Tests.{either}
 use Rattle.field.proofs.BigEndian.{to-from}
 use Rattle.field.proofs.SameBytes.{same-eq, eq-same, same-append}
 use Rattle.droplet.specs.declared.card.Card.{Card}
@@ -42,11 +40,11 @@ module _ (c : Card) where
   no-width-field f = rw f
 
   pub width-length : length (width_field c) ≡ cond c.interleaved 7 0
-  unfolding field_bytes to_two_bytes to_big_endian
-  width-length = elim (either c.interleaved) [ inl t ↦ rw (width-field t, t) | inr f ↦ rw (no-width-field f, f) ]
+  unfolding width_field field_bytes to_two_bytes to_big_endian
+  width-length = grind arith
 
   pub width-short : length (width_field c) ≤ 7
-  width-short = rw width-length (elim (either c.interleaved) [ inl t ↦ rw t (omega arith) | inr f ↦ rw f (omega arith) ])
+  width-short = grind (arith, width-length)
 
 module _ (c : Card) (ws : List ℕ) where
   pub head-length : length (head_bytes c ws) ≡ weights_start
@@ -84,11 +82,7 @@ module _ (c : Card) (ws : List ℕ) where
 
   pub width-there : width_there (card_bytes c ws) ≡ c.interleaved
   unfolding width_there
-  width-there =
-      elim (either c.interleaved) [
-        | inl t ↦ rw (weights-end, card-length, width-length c, t, le-leb (weights_start + length ws + 7) (weights_start + length ws + 7) (omega arith))
-        | inr f ↦ rw (weights-end, card-length, width-length c, f, lt-leb (weights_start + length ws + 7) (weights_start + length ws + 0) (omega arith))
-      ]
+  width-there = let end = weights-end in let size = card-length in let field = width-length c in grind (arith, nat_tests)
 
   width-at : c.interleaved ≡ true → number_at (weights_start + length ws + 3) 4 (card_bytes c ws) ≡ from_big_endian (to_big_endian c.width)
   unfolding number_at width_field field_bytes to_two_bytes to_big_endian
@@ -126,11 +120,7 @@ module _ (c : Card) (ws : List ℕ) where
   -- W is not looked at without the field
   pub carried-bytes : card_bytes (carried c) ws ≡ card_bytes c ws
   unfolding card_bytes width_field carried
-  carried-bytes = rw (unread c.interleaved)
-    where
-      unread : (there : Bool) → cond there (field_bytes 4 (to_big_endian (cond there c.width 0))) [] ≡ cond there (field_bytes 4 (to_big_endian c.width)) []
-      unread true = refl
-      unread false = refl
+  carried-bytes = grind arith
 
 -- ---- well-formed cards
 
@@ -141,11 +131,7 @@ card-well-formed c ws h small e = rw (numbers-back c ws h small, weights-back c 
 
 pub own-bytes : (card : List ℕ) → well_formed card ≡ true → card ≡ card_bytes (card_numbers card) (card_weights card)
 unfolding well_formed
-own-bytes card e =
-    elim (either (same_bytes card (card_bytes (card_numbers card) (card_weights card)))) [
-      | inl same ↦ same-eq _ _ same
-      | inr other ↦ absurd (false≢true (rw other at e))
-    ]
+own-bytes card e = let same : same_bytes card (card_bytes (card_numbers card) (card_weights card)) ≡ true = grind arith in same-eq _ _ same
 
 pub well-formed-long : (card : List ℕ) → well_formed card ≡ true → weights_end card ≤ length card
 well-formed-long card e =
@@ -161,14 +147,6 @@ module _ (card : List ℕ) where
   pub head-before-end : weights_start ≤ weights_end card
   unfolding weights_end
   head-before-end = omega arith
-
-  module _ (end : ℕ) (e : end ≡ weights_end card) where
-    pub lent-weights : take (end - weights_start) (drop weights_start card) ≡ card_weights card
-    unfolding weights_end
-    lent-weights = let size : end - weights_start ≡ number_at 18 2 card = omega (arith, e) in rw size
-
-    pub lent-rest : take (length card - end) (drop end card) ≡ drop (weights_end card) card
-    lent-rest = rw e (take_all (length card - weights_end card) (drop (weights_end card) card) (simp length-drop (omega arith)))
 
   module _ (long : weights_end card ≤ length card) where
     pub weights-length : length (card_weights card) ≡ weights_end card - weights_start

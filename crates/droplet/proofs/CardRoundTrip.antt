@@ -1,20 +1,20 @@
 -- The card cutter and the card reader give each other back: `CutThenRead`, `ReadThenCut` and `CardsExactly`. Assumes nothing.
-use mathlib.Core.Path.{◌≡◌, refl, sym, ap, ◌∙◌}
-use mathlib.Core.Bool.{Bool, true, false, cond}
+use Rattle.std.specs.Prelude.{Result}
+use mathlib.Core.Path.{◌≡◌, sym, ap, ◌∙◌}
+use mathlib.Core.Bool.{true}
 use mathlib.Core.List.{List}
-use Prim.Native.Nat.{ℕ, ◌+◌, ◌^◌, ◌≤◌, ◌<◌}
+use Prim.Native.Nat.{ℕ, ◌^◌, ◌≤◌, ◌<◌}
 use native.Mathlib.Omega.{arith}
 use lib.ListN.{length, take}
 use lib.Seq.{take-append_seam}
 use borrow.Author.Tests.{le-leb}
 use Rattle.droplet.specs.declared.card.Card.{Card}
-use Rattle.droplet.specs.declared.card_cutter.CutAnswer.{CutAnswer}
-use Rattle.droplet.specs.PoolCard.{number_at, card_bytes, weights_end, width_there, card_numbers, carried, card_weights, weight_count, segment_count}
-use Rattle.droplet.specs.Questions.{within, sizes_right, limits_right, weights_right, width_right, card_refusal, card_reading_refusal, card_reading}
+use Rattle.droplet.specs.declared.refusal.Refusal.{Refusal}
+use Rattle.droplet.specs.PoolCard.{card_bytes, card_numbers, carried, card_weights, well_formed, weight_count, segment_count}
+use Rattle.droplet.specs.Questions.{sizes_right, limits_right, weights_right, width_right, card_refusal, card_reading_refusal, card_reading}
 use Rattle.droplet.specs.Questions.CardRead.{accepted}
 use Rattle.droplet.specs.CardCutter.{cut_card, CutPromise}
 use Rattle.droplet.specs.CardRoundTrip.{CutThenRead, Cuts, ReadThenCut, CardsExactly}
-use Rattle.droplet.proofs.Conjunctions.{said-yes}
 use Rattle.droplet.proofs.CardBytes.{weights-back, numbers-back, card-well-formed, own-bytes}
 use Rattle.droplet.proofs.LegalCard.{legal}
 use Rattle.droplet.proofs.CardAnswers.{reading-accepted}
@@ -22,20 +22,12 @@ use Rattle.droplet.proofs.CardAnswers.{reading-accepted}
 -- without the field W is not looked at
 carried-refusal : (c : Card) (ws : List ℕ) → card_refusal (carried c) ws ≡ card_refusal c ws
 unfolding card_refusal sizes_right limits_right weights_right width_right segment_count carried
-carried-refusal c ws = rw (unasked c.interleaved)
-  where
-    unasked : (there : Bool) → cond there (within 2 (cond there c.width 0) c.f) true ≡ cond there (within 2 c.width c.f) true
-    unasked true = refl
-    unasked false = refl
+carried-refusal c ws = grind arith
 
 -- the reader's W is 0 without the field
 numbers-carried : (card : List ℕ) → carried (card_numbers card) ≡ card_numbers card
 unfolding card_numbers carried
-numbers-carried card = rw (twice (width_there card) (number_at (weights_end card + 3) 4 card))
-  where
-    twice : (there : Bool) (W : ℕ) → cond there (cond there W 0) 0 ≡ cond there W 0
-    twice true W = refl
-    twice false W = refl
+numbers-carried card = grind arith
 
 module _ (c : Card) (ws : List ℕ) (unrefused : card_refusal c ws ≡ 0) where
   -- the reader accepts the bytes of legal numbers and weights
@@ -55,7 +47,7 @@ module _ (c : Card) (ws : List ℕ) (unrefused : card_refusal c ws ≡ 0) where
       )
 
   -- the cutter writes them, if there is space
-  card-cut : (buffer : List ℕ) (r : CutAnswer) (buffer' : List ℕ) → CutPromise c ws buffer r buffer' → length (card_bytes c ws) ≤ length buffer
+  card-cut : (buffer : List ℕ) (r : Result ℕ Refusal) (buffer' : List ℕ) → CutPromise c ws buffer r buffer' → length (card_bytes c ws) ≤ length buffer
       → Cuts (card_bytes c ws) buffer r buffer'
   unfolding cut_card
   card-cut buffer r buffer' p room =
@@ -79,7 +71,7 @@ accepted-bytes : (card : List ℕ) (c : Card) (D : ℕ) → card_reading card �
 unfolding card_reading_refusal
 accepted-bytes card c D e =
     let a = reading-accepted card c D e in
-    let one = (said-yes _ 0 _ a.reader-unrefused).0 in
+    let one : well_formed card ≡ true = grind (arith, a) in
     own-bytes card one ∙ ap (λ (n : Card). card_bytes n (card_weights card)) (sym a.numbers)
 
 pub read-then-cut : ReadThenCut

@@ -2,11 +2,8 @@
 -- what a first "no" that is none says of its question. Assumes nothing.
 use mathlib.Core.Path.{◌≡◌, refl}
 use mathlib.Core.Bool.{Bool, true, false, cond, ◌&&◌}
-use Prim.Native.Nat.{ℕ, suc, ◌≤◌}
+use Prim.Native.Nat.{ℕ, suc}
 use native.Mathlib.Omega.{arith}
-use lib.Dec.{leb}
-use borrow.Author.Tests.{leb-true}
-use Rattle.droplet.specs.Questions.{within}
 
 pub and_then : {a b first flag : Bool} → first ≡ a → first ≡ true → flag ≡ b → flag ≡ (a && b)
 and_then {a = true} e t h = h
@@ -19,11 +16,6 @@ and-else b {a = false} e t h = cc
 pub and-true : (a b : Bool) → (a && b) ≡ true → (a ≡ true) × (b ≡ true)
 and-true true b e = (refl, e)
 and-true false b e = (e, cc)
-
-pub within-true : (lowest n highest : ℕ) → within lowest n highest ≡ true → (lowest ≤ n) × (n ≤ highest)
-within-true lowest n highest e =
-    let both = and-true (leb lowest n) (leb n highest) e in
-    (leb-true lowest n both.0, leb-true n highest both.1)
 
 pub said-yes : (b : Bool) (n others : ℕ) → cond b others (suc n) ≡ 0 → (b ≡ true) × (others ≡ 0)
 said-yes true n others e = (refl, e)

@@ -1,9 +1,8 @@
 -- The degree: its first weights sum to more than r, those of no smaller number do, and it is from 1 to D. Assumes nothing.
-use mathlib.Core.Path.{◌≡◌, refl, ap}
+use mathlib.Core.Path.{◌≡◌, refl}
 use mathlib.Core.List.{List}
-use mathlib.Core.Logic.{⊎_elim}
 use Prim.Native.Nat.{ℕ, zero, suc, ◌+◌, ◌-◌, ◌%◌, ◌≤◌, ◌<◌}
-use native.Mathlib.Nat.{zero-add, mod-lt, eq-or-lt_of_le}
+use native.Mathlib.Nat.{zero-add, mod-lt}
 use native.Mathlib.Numerals.{add-one}
 use native.Mathlib.Omega.{arith}
 use native.Mathlib.Decide.{dec_lt}
@@ -25,11 +24,7 @@ module _ (ws : List ℕ) (r : ℕ) where
   unfolding degree_from
   degree-passed steps d h = rw (le-ltb r (first_weights ws d) h)
 
-  -- a turn of the loop: where the first n weights sum to more than r, and the first d do not, d is below n
-  pub degree-before : (n d : ℕ) → d ≤ n → first_weights ws d ≤ r → r < first_weights ws n → d < n
-  degree-before n d h p q =
-      ⊎_elim (λ (e : d ≡ n). absurd (let z : ⊥ = omega (arith, ap (first_weights ws) e) in z)) (λ (l : d < n). l) (eq-or-lt_of_le h)
-
+  -- a turn of the loop
   pub degree-next : (n d : ℕ) → d < n → first_weights ws d ≤ r → degree_from ws r (n - (d + 1)) (d + 1) ≡ degree_from ws r (n - d) d
   degree-next n d l h =
       let e : n - d ≡ suc (n - (d + 1)) = omega arith in

@@ -1,6 +1,8 @@
+pub mod Refusals
 pub mod NumberAt
 pub mod Conjunctions
 pub mod CardBytes
+pub mod CardParts
 pub mod CardFields
 pub mod LegalCard
 pub mod CardAnswers

@@ -1,5 +1,5 @@
 -- The number that stands in one, two or four bytes of a list, by those bytes. Assumes nothing.
-use mathlib.Core.Path.{◌≡◌}
+use mathlib.Core.Path.{◌≡◌, ap}
 use mathlib.Core.List.{List, [], ◌∷◌}
 use Prim.Native.Nat.{ℕ, suc, ◌+◌, ◌*◌, ◌<◌}
 use native.Mathlib.Nat.{zero-add}
@@ -8,6 +8,7 @@ use native.Mathlib.Omega.{arith}
 use lib.ListN.{length, get_or, take, drop}
 use lib.Seq.{drop-cons}
 use Rattle.field.specs.Bytes.{from_big_endian}
+use Rattle.field.proofs.BigEndian.{take-four}
 use Rattle.droplet.specs.PoolCard.{number_at}
 
 module _ (bytes : List ℕ) where
@@ -25,10 +26,4 @@ module _ (bytes : List ℕ) where
   pub number-four : (i : ℕ) → i + 3 < length bytes
       → number_at i 4 bytes ≡ from_big_endian (get_or bytes i 0 ∷ get_or bytes (i + 1) 0 ∷ get_or bytes (i + 2) 0 ∷ get_or bytes (i + 3) 0 ∷ [])
   unfolding number_at
-  number-four i h =
-      rw (
-        part-cons i (i + 1) 3 (omega arith) (omega arith),
-        part-cons (i + 1) (i + 2) 2 (omega arith) (omega arith),
-        part-cons (i + 2) (i + 3) 1 (omega arith) (omega arith),
-        part-cons (i + 3) (i + 4) 0 (omega arith) h,
-      )
+  number-four i h = ap from_big_endian (take-four bytes i (omega arith))

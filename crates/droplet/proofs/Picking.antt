@@ -3,7 +3,7 @@ use mathlib.Core.Path.{◌≡◌, refl, sym, ◌∙◌}
 use mathlib.Core.Bool.{true, false}
 use mathlib.Core.List.{List, [], ◌∷◌, ◌++◌}
 use Prim.Native.Nat.{ℕ, suc, ◌+◌, ◌-◌, ◌%◌, ◌≤◌, ◌<◌, zero-le}
-use native.Mathlib.Nat.{sub-zero, sub_self}
+use native.Mathlib.Nat.{add-zero, sub-zero, sub_self}
 use native.Mathlib.Numerals.{add-one}
 use native.Mathlib.Omega.{arith}
 use lib.ListN.{length, take, drop, set, take-append-drop, length-set}
@@ -13,11 +13,10 @@ use Rattle.field.specs.Generator.{after_draw, number_drawn}
 use Rattle.droplet.specs.Droplet.{member, joining, pick_from}
 
 -- after i draws what has joined stands in the list's first i places, and the draws left make it the set
-pub record Picking (k d : ℕ) (first : Draw) (lent : List ℕ) (state : Draw) (list : List ℕ) (j i : ℕ) : Type 0 where
+pub record Picking (k d : ℕ) (first : Draw) (lent : List ℕ) (state : Draw) (list : List ℕ) (i : ℕ) : Type 0 where
   pub at_most : i ≤ d
-  pub drawn : j ≡ k - d + i
   pub long : length list ≡ length lent
-  pub goes_on : pick_from (d - i) state j (take i list) ++ drop d list ≡ pick_from d first (k - d) [] ++ drop d lent
+  pub goes_on : pick_from (d - i) state (k - d + i) (take i list) ++ drop d list ≡ pick_from d first (k - d) [] ++ drop d lent
 
 pub take_more : (l : List ℕ) (i s : ℕ) → i < length l → take (i + 1) (set l i s) ≡ take i l ++ (s ∷ [])
 take_more l i s h = rw add-one (take-suc-set l i s h)
@@ -31,25 +30,33 @@ joins-free set j t e = rw e
 
 pick_next : (d i : ℕ) (state : Draw) (j : ℕ) (xs : List ℕ) → i < d
     → pick_from (d - i) state j xs
-    ≡ pick_from (d - (i + 1)) (after_draw state) (j + 1) (xs ++ (joining xs j (number_drawn (after_draw state) % (j + 1)) ∷ []))
+    ≡ pick_from (d - (i + 1)) (after_draw state) (suc j) (xs ++ (joining xs j (number_drawn (after_draw state) % (j + 1)) ∷ []))
 unfolding pick_from
 pick_next d i state j xs h =
     let e : d - i ≡ suc (d - (i + 1)) = omega arith in
     rw (e, add-one j)
 
 module _ (k d : ℕ) (first : Draw) (lent : List ℕ) where
-  pub picking-begins : Picking k d first lent first lent (k - d) 0
-  picking-begins = record { at_most = zero-le; drawn = omega arith; long = refl; goes_on = rw sub-zero }
+  pub picking-begins : Picking k d first lent first lent 0
+  picking-begins = record { at_most = zero-le; long = refl; goes_on = rw (sub-zero, add-zero) }
 
-  module _ (state : Draw) (list : List ℕ) (j i : ℕ) (now : Picking k d first lent state list j i) where
+  module _ (state : Draw) (list : List ℕ) (i : ℕ) (now : Picking k d first lent state list i) where
     pub picking-turns : (state' : Draw) (v s : ℕ) → d ≤ length lent → i < d → state' ≡ after_draw state → v ≡ number_drawn state'
-        → s ≡ joining (take i list) j (v % (j + 1)) → Picking k d first lent state' (set list i s) (j + 1) (i + 1)
+        → s ≡ joining (take i list) (k - d + i) (v % (k - d + i + 1)) → Picking k d first lent state' (set list i s) (i + 1)
     picking-turns state' v s room h next drawn joins = record {
       at_most = omega arith;
-      drawn = omega arith;
       long = length-set list i s ∙ now.long;
       goes_on =
-          rw (take_more list i s (omega arith), drop-set-lt d list i s h, joins, drawn, next, ← pick_next d i state j (take i list) h)
+          let e : k - d + (i + 1) ≡ suc (k - d + i) = omega arith in
+          rw (
+            take_more list i s (omega arith),
+            drop-set-lt d list i s h,
+            joins,
+            drawn,
+            next,
+            e,
+            ← pick_next d i state (k - d + i) (take i list) h,
+          )
           now.goes_on;
     }
 

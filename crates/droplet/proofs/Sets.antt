@@ -1,16 +1,15 @@
 -- The set of segments that a seed picks: as many as its degree, each below K, and no two equal. Assumes nothing.
 use mathlib.Core.Path.{◌≡◌, refl, sym, ◌∙◌}
-use mathlib.Core.Bool.{true, false, ◌||◌, true≢false}
+use mathlib.Core.Bool.{false, ◌||◌, true≢false}
 use mathlib.Core.List.{List, [], ◌∷◌, ◌++◌}
 use mathlib.Core.Logic.{inl, inr}
 use Prim.Native.Nat.{ℕ, zero, suc, ◌+◌, ◌-◌, ◌%◌, ◌≤◌, ◌<◌}
 use native.Mathlib.Nat.{mod-lt, zero-lt-suc, le_refl}
-use native.Mathlib.Numerals.{add-one}
 use native.Mathlib.Omega.{arith}
 use lib.Dec.{eqb}
-use lib.ListN.{length, get_or, drop, length-append, drop_of_length-le}
-use lib.Seq.{drop-cons}
-use borrow.Author.Tests.{eqb-false, eq-eqb, ne_eqb}
+use lib.ListN.{length, length-append}
+use borrow.Author.Tests.{eqb-false, ne_eqb}
+use Rattle.std.specs.List.{list_any}
 use Rattle.field.specs.declared.generator.Draw.{Draw}
 use Rattle.field.specs.Bytes.{All}
 use Rattle.field.specs.Generator.{of_seed, after_draw, number_drawn}
@@ -27,19 +26,11 @@ unfolding member
 member-append t [] ys = refl
 member-append t (x ∷ xs) ys = elim (either (eqb x t)) [ inl e ↦ rw e | inr e ↦ rw e (member-append t xs ys) ]
 
--- what is left of a list from place i on
-module _ (t : ℕ) (xs : List ℕ) (i : ℕ) where
-  pub member-here : i < length xs → get_or xs i 0 ≡ t → member t (drop i xs) ≡ true
-  unfolding member
-  member-here h e = rw (drop-cons xs i 0 h, eq-eqb (get_or xs i 0) t e)
-
-  pub member-past : i < length xs → (get_or xs i 0 ≡ t → ⊥) → member t (drop i xs) ≡ member t (drop (i + 1) xs)
-  unfolding member
-  member-past h e = rw (add-one, drop-cons xs i 0 h, ne_eqb (get_or xs i 0) t e)
-
-  pub member-end : length xs ≤ i → member t (drop i xs) ≡ false
-  unfolding member
-  member-end h = rw (drop_of_length-le xs h)
+-- what the library's `contains` answers
+pub list_any-member : (t : ℕ) (xs : List ℕ) → list_any (λ y. eqb y t) xs ≡ member t xs
+unfolding member
+list_any-member t [] = refl
+list_any-member t (x ∷ xs) = elim (either (eqb x t)) [ inl e ↦ rw e | inr e ↦ rw e (list_any-member t xs) ]
 
 -- a list of numbers below K has no other
 pub member_below : (K t : ℕ) (xs : List ℕ) → All (λ s. s < K) xs → K ≤ t → member t xs ≡ false

@@ -1,12 +1,13 @@
 -- A list XORed into the front of another: byte by byte, with zeros behind it, and where what is behind stays. Assumes nothing.
-use mathlib.Core.Path.{◌≡◌, refl, ap, ap₂}
+use mathlib.Core.Path.{◌≡◌, refl, sym, ap, ap₂, ◌∙◌}
 use mathlib.Core.List.{List, [], ◌∷◌, ◌++◌}
-use Prim.Native.Nat.{ℕ, zero, suc, ◌+◌, ◌-◌, ◌*◌, ◌≤◌, ◌<◌}
+use Prim.Native.Nat.{ℕ, zero, suc, min, ◌+◌, ◌-◌, ◌*◌, ◌≤◌, ◌<◌}
 use native.Mathlib.Numerals.{add-one}
 use native.Mathlib.Omega.{arith}
+use native.Mathlib.Decide.{dec_le}
 use lib.Bits.{bit_xor, xor_zero_r}
-use lib.ListN.{length, get_or, take, drop, set, replicate, length-take}
-use lib.Seq.{take_at, drop_at}
+use lib.ListN.{length, get_or, take, drop, set, replicate, length-take, length-drop}
+use lib.Seq.{take_at, drop_at, take_all}
 use Rattle.field.specs.Bytes.{xor_lists, padded}
 use Rattle.field.proofs.ByteLists.{xor_lists-length}
 use Rattle.droplet.specs.Droplet.{segment}
@@ -39,10 +40,18 @@ front-zeros [] (y ∷ q) n h = absurd (let z : ⊥ = omega arith in z)
 front-zeros (x ∷ p) (y ∷ q) n h = ap (◌∷◌ (bit_xor x y)) (front-zeros p q n (omega arith))
 
 -- so the bytes of a segment past the file's end can be left out
-pub front-segment : (p file : List ℕ) (L s : ℕ) → L ≤ length p → xor_front p (segment L file s) ≡ xor_front p (take L (drop (s * L) file))
+pub front-segment : (p file : List ℕ) (L s : ℕ) → L ≤ length p
+    → xor_front p (take (min (s * L + L) (length file) - s * L) (drop (s * L) file)) ≡ xor_front p (segment L file s)
 unfolding segment padded
 front-segment p file L s h =
-    front-zeros p (take L (drop (s * L) file)) (L - length (take L (drop (s * L) file))) (omega (arith, length-take L (drop (s * L) file)))
+    let rest = drop (s * L) file in
+    let e : take (min (s * L + L) (length file) - s * L) rest ≡ take L rest =
+    elim (dec_le L (length rest)) [
+      | yes l ↦ (let n : min (s * L + L) (length file) - s * L ≡ L = omega (arith, length-drop (s * L) file) in rw n)
+      | no l ↦
+          take_all _ rest (omega (arith, length-drop (s * L) file)) ∙ sym (take_all L rest (omega arith))
+    ] in
+    rw e (sym (front-zeros p (take L rest) (L - length (take L rest)) (omega (arith, length-take L rest))))
 
 -- what is behind stays
 pub front-padded : (n : ℕ) (p q : List ℕ) → length p ≡ length q → xor_front (padded n p) q ≡ padded n (xor_lists p q)

@@ -1,9 +1,9 @@
 -- Document 02, Item 2, "A card cutter", with the field of Item 14: the questions of the call, what it answers and what it leaves in the
 -- lent buffer. Assumes nothing.
-use Rattle.std.specs.Prelude.{◌≡◌, cond, List, ◌++◌, ℕ, eqb, leb, length, drop}
+use Rattle.std.specs.Prelude.{◌≡◌, cond, List, ◌++◌, ℕ, eqb, leb, length, drop, Result, Ok, Err}
 use Rattle.droplet.specs.declared.card.Card.{Card}
-use Rattle.droplet.specs.declared.card_cutter.CutAnswer.{CutAnswer}
-use Rattle.droplet.specs.declared.card_cutter.CutAnswer.TheVariants as answer
+use Rattle.droplet.specs.declared.refusal.Refusal.{Refusal}
+use Rattle.droplet.specs.Refusals.{refusal_number}
 use Rattle.droplet.specs.PoolCard.{card_bytes}
 use Rattle.droplet.specs.Questions.{card_refusal}
 
@@ -12,9 +12,9 @@ pub data Cut : Type 0 where
   cut : ℕ → Cut
   refused : ℕ → Cut
 
-abbrev pub cut_answer : CutAnswer → Cut
-cut_answer (answer.Cut n) = cut n
-cut_answer (answer.Refused n) = refused n
+abbrev pub cut_answer : Result ℕ Refusal → Cut
+cut_answer (Ok n) = cut n
+cut_answer (Err q) = refused (refusal_number q)
 
 -- the answer with the buffer after the call
 pub data CutEnd : Type 0 where
@@ -38,6 +38,6 @@ cut_card c weights buffer =
     (ended (refused (card_refusal c weights)) buffer)
 
 -- the promise of the card cutter: its answer and the buffer at exit
-pub record CutPromise (c : Card) (weights buffer : List ℕ) (r : CutAnswer) (buffer' : List ℕ) : Type 0 where
+pub record CutPromise (c : Card) (weights buffer : List ℕ) (r : Result ℕ Refusal) (buffer' : List ℕ) : Type 0 where
   pub says : cut_answer r ≡ cut_reply (cut_card c weights buffer)
   pub leaves : buffer' ≡ cut_buffer (cut_card c weights buffer)

@@ -1,5 +1,7 @@
 pub mod PoolCard
+pub mod CardParts
 pub mod Droplet
+pub mod Refusals
 pub mod Questions
 pub mod CardFields
 pub mod CardCutter

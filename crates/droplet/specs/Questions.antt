@@ -1,10 +1,9 @@
 -- Document 01, "Questions in their order": 1 to 4, and 27 of document 02, Item 14. "The first no gives the number." Assumes nothing.
-use Rattle.std.specs.Prelude.{Bool, true, cond, ◌&&◌, ◌||◌, List, ℕ, ◌%◌, eqb, leb, length}
+use Rattle.std.specs.Prelude.{Bool, true, cond, ◌&&◌, ◌||◌, List, ℕ, ◌%◌, eqb, leb, length, Result, Ok, Err}
 use Rattle.droplet.specs.declared.card.Card.{Card}
-use Rattle.droplet.specs.declared.card.CardAnswer.{CardAnswer}
-use Rattle.droplet.specs.declared.card.CardAnswer.TheVariants as reading
-use Rattle.droplet.specs.declared.card.PlanAnswer.{PlanAnswer}
-use Rattle.droplet.specs.declared.card.PlanAnswer.TheVariants as planning
+use Rattle.droplet.specs.declared.card.Plan.{Plan}
+use Rattle.droplet.specs.declared.refusal.Refusal.{Refusal}
+use Rattle.droplet.specs.Refusals.{refusal_number}
 use Rattle.droplet.specs.PoolCard.{well_formed, card_numbers, card_weights, weight_count, weight_sum, segment_count}
 
 -- lowest ≤ n ≤ highest
@@ -21,10 +20,13 @@ unfoldable pub limits_right : Card → Bool
 limits_right c = within 1 c.m 20 && leb c.lo c.hi && leb c.hi 1000
 
 -- 4: "Bytes of the weights a multiple of 4, D from 1 to the smaller of K and 1,024, weights summing to 1 to 4,294,967,295?"
+-- but for the sum
+abbrev pub degrees_right : ℕ → List ℕ → Bool
+degrees_right K weights =
+    eqb (length weights % 4) 0 && leb 1 (weight_count weights) && leb (weight_count weights) K && leb (weight_count weights) 1024
+
 unfoldable pub weights_right : Card → List ℕ → Bool
-weights_right c weights =
-    eqb (length weights % 4) 0 && leb 1 (weight_count weights) && leb (weight_count weights) (segment_count c) && leb (weight_count weights) 1024
-    && within 1 (weight_sum weights) 4294967295
+weights_right c weights = degrees_right (segment_count c) weights && within 1 (weight_sum weights) 4294967295
 
 -- 27: "a W below 2 or above F is refused"; a call "checks W only if it is there"
 unfoldable pub width_right : Card → Bool
@@ -40,9 +42,9 @@ pub data Planned : Type 0 where
   planned : ℕ → ℕ → ℕ → Planned
   refused : ℕ → Planned
 
-abbrev pub plan_answer : PlanAnswer → Planned
-plan_answer (planning.Ready p) = planned p.segments p.degrees p.sum
-plan_answer (planning.Refused n) = refused n
+abbrev pub plan_answer : Result Plan Refusal → Planned
+plan_answer (Ok p) = planned p.segments p.degrees p.sum
+plan_answer (Err q) = refused (refusal_number q)
 
 unfoldable pub plan_of : Card → List ℕ → Planned
 plan_of c weights =
@@ -58,9 +60,9 @@ pub data CardRead : Type 0 where
   accepted : Card → ℕ → CardRead
   refused : ℕ → CardRead
 
-abbrev pub card_answer : CardAnswer → CardRead
-card_answer (reading.Accepted c d) = accepted c d
-card_answer (reading.Refused n) = CardRead.refused n
+abbrev pub card_answer : Result (Card × ℕ) Refusal → CardRead
+card_answer (Ok a) = accepted a.0 a.1
+card_answer (Err q) = CardRead.refused (refusal_number q)
 
 unfoldable pub card_reading : List ℕ → CardRead
 card_reading card =

@@ -1,13 +1,17 @@
-ghost use Rattle.std.specs.Prelude.{◌≡◌, cond, ◌||◌, ◌+◌, ◌*◌, ◌≤◌, ◌<◌, eqb, ◌++◌, length, take, drop};
+ghost use Rattle.std.specs.Prelude.{◌≡◌, cond, ◌&&◌, ◌||◌, ◌+◌, ◌*◌, ◌≤◌, ◌<◌, eqb, leb, List, ℕ, ◌++◌, length, take, drop, Some, None, MatchOption, true, false};
 ghost use Rattle.field.specs.Bytes.{to_big_endian, same_bytes};
-ghost use Rattle.droplet.specs.PoolCard.{number_at, to_two_bytes, field_bytes, width_field, card_bytes, weights_start, weights_end, width_there, card_numbers, card_weights, well_formed, weight_sum, segment_count, strand_bytes, bases_of, bytes_of};
-ghost use Rattle.droplet.specs.Questions.{within, sizes_right, limits_right, weights_right, width_right, plan_answer, plan_of, card_answer, card_reading};
+ghost use Rattle.droplet.specs.PoolCard.{number_at, to_two_bytes, field_bytes, width_field, card_bytes, weights_start, weights_end, width_there, card_numbers, card_weights, well_formed, weight_sum, segment_count, strand_bytes, strand_bases, bases_of, bytes_of};
+ghost use Rattle.droplet.specs.CardParts.{HasEnds, IsCardOf};
+ghost use Rattle.droplet.specs.Questions.{within, sizes_right, limits_right, degrees_right, width_right, plan_answer, plan_of, card_answer, card_reading};
 
+use crate::refusal::Refusal;
 use crate::weights;
-use field::bytes::{copy, join, split, starts_with};
+use field::bytes::{copy, number_at};
 
 // The numbers of a pool card: F, L, R, m, lo and hi; whether its file is interleaved (dealt), and the width W.
-#[derive(Clone, Copy)]
+// Not Option<u32> for the last two: a card without the field may be handed a W, which `CutThenRead` says is read back as 0.
+// The weights stay beside a card and not in it: the C interface hands both over, and they are lent bytes.
+#[derive(Clone, Copy, Debug, PartialEq, Eq)]
 pub struct Card {
     pub f: u32,
     pub l: u8,
@@ -20,34 +24,22 @@ pub struct Card {
 }
 
 // What the questions 2 to 4 learn on the way: K, D and the sum of the weights.
-#[derive(Clone, Copy)]
+#[derive(Clone, Copy, Debug, PartialEq, Eq)]
 pub struct Plan {
     pub segments: u32,
     pub degrees: u32,
     pub sum: u32,
 }
 
-#[derive(Clone, Copy)]
-pub enum PlanAnswer {
-    Ready(Plan),
-    Refused(u8),
-}
-
-// What the card reader answers: the numbers and D, or the refusal number.
-#[derive(Clone, Copy)]
-pub enum CardAnswer {
-    Accepted(Card, u32),
-    Refused(u8),
-}
-
-// A length in bases, and a length in bytes.
-#[derive(Clone, Copy)]
+// A length in bases, and a length in bytes. Not one generic type: that they are two types is what they are for.
+#[derive(Clone, Copy, Debug, PartialEq, Eq)]
 pub struct Bases(pub usize);
 
-#[derive(Clone, Copy)]
+#[derive(Clone, Copy, Debug, PartialEq, Eq)]
 pub struct Bytes(pub usize);
 
-// Four bases are one byte.
+// Four bases are one byte. Not From: it asks nothing of a length, and this does; and as methods the two would be no plainer.
+#[tactic(auto, unfolding(crate::specs::PoolCard::bases_of))]
 pub fn to_bases(n: Bytes) -> Bases
     requires { n.0 ≤ 65536 }
     ensures { result ≡ bases_of n }
@@ -55,6 +47,7 @@ pub fn to_bases(n: Bytes) -> Bases
     Bases(n.0 * 4)
 }
 
+#[tactic(auto, unfolding(crate::specs::PoolCard::bytes_of))]
 pub fn to_bytes(n: Bases) -> Bytes
     ensures { result ≡ bytes_of n }
 {
@@ -62,42 +55,37 @@ pub fn to_bytes(n: Bases) -> Bytes
 }
 
 // K: the file's length over a segment's, rounded up.
+#[tactic(auto, unfolding(crate::specs::PoolCard::segment_count))]
 pub fn segment_count(card: Card) -> u32
     requires { (1 ≤ card.l) × (card.f ≤ 8388608) }
     ensures { result ≡ segment_count card }
 {
-    let l = card.l as u32;
-    (card.f + (l - 1)) / l
+    card.f.div_ceil(u32::from(card.l))
 }
 
 // A strand's bytes: seed, payload and check bytes.
+#[tactic(auto, unfolding(crate::specs::PoolCard::strand_bytes))]
 pub fn strand_bytes(card: Card) -> Bytes
     ensures { result ≡ record { 0 = strand_bytes card } }
 {
-    Bytes(4 + card.l as usize + card.r as usize)
+    Bytes(4 + usize::from(card.l) + usize::from(card.r))
 }
 
-// Both ends belong to the range.
-fn within(lowest: u32, n: u32, highest: u32) -> bool
-    ensures { result ≡ within lowest n highest }
+// n: a strand's bases.
+pub fn strand_bases(card: Card) -> Bases
+    ensures { (result.0 ≡ strand_bases card) × (result.0 ≤ 2056) }
 {
-    lowest <= n && n <= highest
-}
-
-// The numbers of check bytes that a card may ask for.
-fn two_or_four(r: u8) -> bool
-    ensures { result ≡ (eqb r 2 || eqb r 4) }
-{
-    r == 2 || r == 4
+    to_bases(strand_bytes(card))
 }
 
 // Question 2. K comes last: it has a meaning only where F and L are right.
+#[tactic(auto, unfolding(crate::specs::Questions::sizes_right))]
 fn sizes_right(card: Card) -> bool
     ensures { result ≡ sizes_right card }
 {
-    within(1, card.f, 8388608)
-        && within(1, card.l as u32, 64)
-        && two_or_four(card.r)
+    (1..=8388608).contains(&card.f)
+        && (1..=64).contains(&card.l)
+        && matches!(card.r, 2 | 4)
         && segment_count(card) <= 131072
 }
 
@@ -106,146 +94,119 @@ fn sizes_right(card: Card) -> bool
 fn limits_right(card: Card) -> bool
     ensures { result ≡ limits_right card }
 {
-    within(1, card.m as u32, 20) && card.lo <= card.hi && card.hi <= 1000
+    (1..=20).contains(&card.m) && card.lo <= card.hi && card.hi <= 1000
 }
 
-// Question 4: the sum of the weights, or 0 if the answer is no, since no right sum is 0. They are summed, and once, when
-// they are known to be few enough for 64 bits.
-fn right_sum(card: Card, weights: &[u8]) -> u32
-    requires { (1 ≤ card.l) × (card.f ≤ 8388608) }
-    ensures { result ≡ cond (weights_right card weights.now) (weight_sum weights.now) 0 }
+// Of question 4, what it asks of the length of the weights.
+fn degrees_right(segments: u32, weights: &[u8]) -> bool
+    ensures { result ≡ degrees_right segments weights.now }
 {
     let degrees = weights.len() / 4;
-    if weights.len() % 4 != 0 {
-        return 0;
+    weights.len() % 4 == 0 && 1 <= degrees && degrees <= segments as usize && degrees <= 1024
+}
+
+// Question 4: the sum of the weights, if the answer is yes. They are summed, and once, when they are known to be few enough for 64 bits.
+fn right_sum(segments: u32, weights: &[u8]) -> Option<u32>
+    ensures { result ≡ cond (degrees_right segments weights.now && within 1 (weight_sum weights.now) 4294967295) (Some (weight_sum weights.now)) None }
+{
+    if !degrees_right(segments, weights) {
+        return None;
     }
-    if degrees < 1 {
-        return 0;
-    }
-    if (segment_count(card) as usize) < degrees {
-        return 0;
-    }
-    if 1024 < degrees {
-        return 0;
-    }
-    let sum = weights::sum_weights(weights);
-    if 4294967295 < sum {
-        return 0;
-    }
-    sum as u32
+    let sum = u32::try_from(weights::sum_weights(weights)).ok()?;
+    (sum != 0).then_some(sum)
 }
 
 // Question 27. Without the field any width will do.
+#[tactic(auto, unfolding(crate::specs::Questions::width_right))]
 fn width_right(card: Card) -> bool
     ensures { result ≡ width_right card }
 {
-    if card.interleaved {
-        return within(2, card.width, card.f);
-    }
-    true
+    !card.interleaved || (2..=card.f).contains(&card.width)
 }
 
 // The questions 2 to 4 and 27, with which every call but the card reader starts.
-pub fn check_plan(card: Card, weights: &[u8]) -> PlanAnswer
+#[tactic(auto, unfolding(crate::specs::Questions::plan_of, crate::specs::Questions::card_refusal, crate::specs::Questions::weights_right))]
+pub fn check_plan(card: Card, weights: &[u8]) -> Result<Plan, Refusal>
     ensures { plan_answer result ≡ plan_of card weights.now }
 {
-    if sizes_right(card) {
-        if limits_right(card) {
-            let sum = right_sum(card, weights);
-            if sum == 0 {
-                return PlanAnswer::Refused(4);
-            }
-            if width_right(card) {
-                return PlanAnswer::Ready(Plan {
-                    segments: segment_count(card),
-                    degrees: (weights.len() / 4) as u32,
-                    sum,
-                });
-            }
-            return PlanAnswer::Refused(27);
-        }
-        return PlanAnswer::Refused(3);
+    if !sizes_right(card) {
+        return Err(Refusal::Sizes);
     }
-    PlanAnswer::Refused(2)
+    if !limits_right(card) {
+        return Err(Refusal::Limits);
+    }
+    let segments = segment_count(card);
+    let sum = right_sum(segments, weights).ok_or(Refusal::Weights)?;
+    if !width_right(card) {
+        return Err(Refusal::Width);
+    }
+    Ok(Plan {
+        segments,
+        degrees: (weights.len() / 4) as u32,
+        sum,
+    })
 }
 
-// Most significant byte first, as in every number of a card.
-fn join_two(high: u8, low: u8) -> u16
-    ensures { result ≡ high * 256 + low }
-{
-    (high as u16) * 256 + (low as u16)
-}
-
-// The number in the two bytes from a place on.
+// The number in the two bytes from a place on, the most significant first, as in every number of a card. Beside `number_at`, which
+// reads four: each is one call of the library, so one for both would be no plainer.
+#[tactic(auto, unfolding(crate::specs::PoolCard::number_at, field::specs::Bytes::from_big_endian))]
 fn two_bytes(bytes: &[u8], at: usize) -> u16
     requires { at + 2 ≤ length bytes.now }
     ensures { result ≡ number_at at 2 bytes.now }
 {
-    join_two(bytes[at], bytes[at + 1])
-}
-
-// The number in the four bytes from a place on.
-fn four_bytes(bytes: &[u8], at: usize) -> u32
-    requires { at + 4 ≤ length bytes.now }
-    ensures { result ≡ number_at at 4 bytes.now }
-{
-    join(bytes[at], bytes[at + 1], bytes[at + 2], bytes[at + 3])
+    u16::from_be_bytes([bytes[at], bytes[at + 1]])
 }
 
 // Where the weights end, by the length of the third field.
+#[tactic(auto, unfolding(crate::specs::PoolCard::weights_end))]
 pub fn weights_end(bytes: &[u8]) -> usize
     requires { 20 ≤ length bytes.now }
     ensures { (result ≡ weights_end bytes.now) × (result ≤ 65555) }
 {
-    20 + two_bytes(bytes, 18) as usize
+    20 + usize::from(two_bytes(bytes, 18))
 }
 
 // The width, if a fourth field stands behind the weights.
-fn card_width(bytes: &[u8], end: usize) -> u32
-    requires { (end ≡ weights_end bytes.now) × (end ≤ 65555) }
-    ensures { result ≡ cond (width_there bytes.now) (number_at (weights_end bytes.now + 3) 4 bytes.now) 0 }
+#[tactic(auto, unfolding(crate::specs::PoolCard::number_at))]
+fn card_width(rest: &[u8]) -> Option<u32>
+    ensures { result ≡ cond (leb 7 (length rest.now)) (Some (number_at 3 4 rest.now)) None }
 {
-    if bytes.len() < end + 7 {
-        return 0;
+    if rest.len() < 7 {
+        return None;
     }
-    four_bytes(bytes, end + 3)
+    Some(number_at(rest, 3))
 }
 
-// The contents of the first two fields, past their tags and lengths, and that of the fourth.
-fn card_numbers(bytes: &[u8]) -> Card
-    requires { 20 ≤ length bytes.now }
-    ensures { result ≡ card_numbers bytes.now }
+// The numbers of a card whose first 20 bytes these are, and what stands behind its weights: the contents of the first two fields, past
+// their tags and lengths, and that of the fourth.
+fn card_numbers(head: &[u8], rest: &[u8]) -> Card
+    requires { length head.now ≡ 20 }
+    ensures { (bytes : List ℕ) → HasEnds bytes head.now rest.now → result ≡ card_numbers bytes }
 {
-    let end = weights_end(bytes);
+    let width = card_width(rest);
     Card {
-        f: four_bytes(bytes, 3),
-        l: bytes[7],
-        r: bytes[8],
-        m: bytes[12],
-        lo: two_bytes(bytes, 13),
-        hi: two_bytes(bytes, 15),
-        interleaved: end + 7 <= bytes.len(),
-        width: card_width(bytes, end),
+        f: number_at(head, 3),
+        l: head[7],
+        r: head[8],
+        m: head[12],
+        lo: two_bytes(head, 13),
+        hi: two_bytes(head, 15),
+        interleaved: width.is_some(),
+        width: width.unwrap_or(0),
     }
-}
-
-// The two bytes of a number.
-fn split_two(n: u16) -> [u8; 2]
-    ensures { result ≡ to_two_bytes n }
-{
-    [(n / 256) as u8, (n % 256) as u8]
 }
 
 // A card's bytes before its weights: two fields, and tag and length of the third. The card cutter writes them, the card reader
 // compares with them.
+#[tactic(auto, unfolding(crate::specs::PoolCard::card_bytes, crate::specs::PoolCard::field_bytes, crate::specs::PoolCard::to_two_bytes, field::specs::Bytes::to_big_endian))]
 pub fn card_head(card: Card, weights: &[u8]) -> [u8; 20]
     requires { length weights.now < 65536 }
     ensures { result ≡ take weights_start (card_bytes card weights.now) }
 {
-    let f = split(card.f);
-    let lo = split_two(card.lo);
-    let hi = split_two(card.hi);
-    let size = split_two(weights.len() as u16);
+    let f = card.f.to_be_bytes();
+    let lo = card.lo.to_be_bytes();
+    let hi = card.hi.to_be_bytes();
+    let size = (weights.len() as u16).to_be_bytes();
     [
         1, 0, 6, f[0], f[1], f[2], f[3], card.l, card.r, 2, 0, 5, card.m, lo[0], lo[1], hi[0],
         hi[1], 3, size[0], size[1],
@@ -253,14 +214,16 @@ pub fn card_head(card: Card, weights: &[u8]) -> [u8; 20]
 }
 
 // The fourth field: tag 4, length 4, and the width.
+#[tactic(auto, unfolding(crate::specs::PoolCard::field_bytes, crate::specs::PoolCard::to_two_bytes, field::specs::Bytes::to_big_endian))]
 fn width_bytes(width: u32) -> [u8; 7]
     ensures { result ≡ field_bytes 4 (to_big_endian width) }
 {
-    let w = split(width);
+    let w = width.to_be_bytes();
     [4, 0, 4, w[0], w[1], w[2], w[3]]
 }
 
 // How many bytes a card has behind its weights.
+#[tactic(auto, unfolding(crate::specs::PoolCard::width_field, crate::specs::PoolCard::field_bytes, crate::specs::PoolCard::to_two_bytes, field::specs::Bytes::to_big_endian))]
 pub fn width_length(card: Card) -> usize
     ensures { result ≡ length (width_field card) }
 {
@@ -271,6 +234,7 @@ pub fn width_length(card: Card) -> usize
 }
 
 // Writes what a card has behind its weights.
+#[tactic(auto, unfolding(crate::specs::PoolCard::width_field, crate::specs::PoolCard::field_bytes, crate::specs::PoolCard::to_two_bytes, field::specs::Bytes::to_big_endian))]
 pub fn put_width(card: Card, out: &mut [u8])
     requires { length (width_field card) ≤ length out.old }
     ensures { out.new ≡ width_field card ++ drop (length (width_field card)) out.old }
@@ -284,50 +248,39 @@ pub fn put_width(card: Card, out: &mut [u8])
 fn is_width(card: Card, bytes: &[u8]) -> bool
     ensures { result ≡ same_bytes bytes.now (width_field card) }
 {
-    if bytes.len() != width_length(card) {
-        return false;
-    }
     if card.interleaved {
-        return starts_with(bytes, &width_bytes(card.width));
+        return bytes == width_bytes(card.width).as_slice();
     }
-    true
+    bytes.is_empty()
 }
 
-// Whether these bytes are the card of these numbers and of the weights in it, which end at `end`: what stands before the weights and
-// what stands behind them decides.
-fn is_card(card: Card, bytes: &[u8], end: usize) -> bool
-    requires { (end ≡ weights_end bytes.now) × (end ≤ 65555) × (end ≤ length bytes.now) }
-    ensures { result ≡ same_bytes bytes.now (card_bytes card (card_weights bytes.now)) }
+// Whether a card with these numbers and these weights has this before them and this behind them.
+fn is_card(card: Card, head: &[u8], weights: &[u8], rest: &[u8]) -> bool
+    requires { (length head.now ≡ 20) × (length weights.now < 65536) }
+    ensures { result ≡ (same_bytes head.now (take weights_start (card_bytes card weights.now)) && same_bytes rest.now (width_field card)) }
 {
-    let head = card_head(card, &bytes[20..end]);
-    starts_with(bytes, &head) && is_width(card, &bytes[end..])
+    head == card_head(card, weights).as_slice() && is_width(card, rest)
 }
 
-// Question 1. A card is well-formed if it is the card of its own numbers and weights.
-fn well_formed(bytes: &[u8]) -> bool
-    ensures { result ≡ well_formed bytes.now }
+// Question 1: the numbers and the weights of a well-formed card, which is the card of its own numbers and weights.
+fn well_formed(bytes: &[u8]) -> Option<(Card, &[u8])>
+    ensures { MatchOption result (well_formed bytes.now ≡ false) (λ p. IsCardOf bytes.now p.0 p.1.now) }
 {
-    if bytes.len() < 20 {
-        return false;
+    let (head, behind) = bytes.split_at_checked(20)?;
+    let (weights, rest) = behind.split_at_checked(usize::from(two_bytes(head, 18)))?;
+    let card = card_numbers(head, rest);
+    if is_card(card, head, weights, rest) && weights.len() % 4 == 0 {
+        return Some((card, weights));
     }
-    let end = weights_end(bytes);
-    if bytes.len() < end {
-        return false;
-    }
-    is_card(card_numbers(bytes), bytes, end) && (end - 20) % 4 == 0
+    None
 }
 
-// The card reader. The weights stand from byte 20 on.
-pub fn read_card(bytes: &[u8]) -> CardAnswer
+// The card reader: the numbers and D. The weights stand from byte 20 on.
+#[tactic(auto, unfolding(crate::specs::Questions::card_reading, crate::specs::Questions::card_reading_refusal, crate::specs::Questions::plan_of))]
+pub fn read_card(bytes: &[u8]) -> Result<(Card, u32), Refusal>
     ensures { card_answer result ≡ card_reading bytes.now }
 {
-    if well_formed(bytes) {
-        let card = card_numbers(bytes);
-        let end = weights_end(bytes);
-        return match check_plan(card, &bytes[20..end]) {
-            PlanAnswer::Ready(plan) => CardAnswer::Accepted(card, plan.degrees),
-            PlanAnswer::Refused(n) => CardAnswer::Refused(n),
-        };
-    }
-    CardAnswer::Refused(1)
+    let (card, weights) = well_formed(bytes).ok_or(Refusal::Malformed)?;
+    let plan = check_plan(card, weights)?;
+    Ok((card, plan.degrees))
 }

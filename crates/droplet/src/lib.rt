@@ -4,4 +4,5 @@
 pub mod card;
 pub mod card_cutter;
 pub mod droplet;
+pub mod refusal;
 pub mod weights;

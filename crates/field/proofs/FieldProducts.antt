@@ -1,15 +1,15 @@
 -- Products in the field of the check bytes: they are linear and commute, and so two laws of four check sums, of which corrections are made.
 -- Assumes nothing.
-use Rattle.std.proofs.Common.{◌≡◌, ℕ, zero, suc, ◌/◌, ◌%◌, ◌^◌, ◌<◌, sym, refl, ap, ◌∙◌, ap₂, arith, lit<}
+use Rattle.std.proofs.Common.{◌≡◌, ℕ, zero, suc, ◌/◌, ◌%◌, ◌^◌, ◌<◌, sym, refl, ap, ◌∙◌, ap₂, lit<}
 use lib.Bits.{bit_xor, xor_lt}
-use Rattle.field.specs.CheckBytes.{double, times_power}
+use Rattle.field.specs.CheckBytes.{double, double-shifts, times_power}
 use Rattle.field.specs.Products.{bit_times, times, field_product}
 use Rattle.field.proofs.Xor.{xors}
-use Rattle.field.proofs.Powers.{double-xor, double-lt, double-low, power-xor, power-lt}
-use Rattle.field.proofs.Products.{IsStep, linear-times, product-one, by_one}
+use Rattle.field.proofs.Powers.{double-lt, power-xor, power-lt}
+use Rattle.field.proofs.Products.{IsStep, shift-step, linear-times, product-one, by_one}
 
 pub byte_step : IsStep double 8
-byte_step = record { keeps = double-xor; doubles = λ x h. double-low x (omega arith) }
+byte_step = shift-step double 7 _ double-shifts
 
 -- ---- linear in the second byte, and commuting
 

@@ -1,16 +1,24 @@
--- A map that keeps XOR and commutes with the step is the product with its value at 1; and the loop over the bits that computes a product.
+-- A map that keeps XOR and commutes with the step is the product with its value at 1; and the loop over the terms that computes a product.
 -- Over any step, and then for seeds. Assumes nothing.
-use Rattle.std.proofs.Common.{◌≡◌, ℕ, zero, suc, ◌-◌, ◌*◌, ◌/◌, ◌%◌, ◌^◌, ◌<◌, sym, refl, ap, ◌∙◌, ap₂, pow-suc, arith}
+use Rattle.std.proofs.Common.{◌≡◌, ℕ, zero, suc, ◌+◌, ◌-◌, ◌*◌, ◌/◌, ◌%◌, ◌^◌, ◌<◌, ◌≤◌, sym, refl, ap, ◌∙◌, ap₂, pow-suc, arith}
 use lib.Bits.{bit_xor, xor_self, xor_shifted, xor_comm, xor_zero_r}
-use Rattle.field.specs.Generator.{seed_after, iterate}
+use lib.Pow.{shr-shr}
+use Rattle.field.specs.Shift.{shift_up}
+use Rattle.field.specs.Generator.{seed_after, seed_after-shifts, iterate}
 use Rattle.field.specs.Products.{bit_times, times, seed_product}
-use Rattle.field.proofs.Xor.{xors, xor_assoc}
-use Rattle.field.proofs.Schedule.{step-xor, step-low}
+use Rattle.field.proofs.Xor.{xors, xor_assoc, shift_up-xor, shift_up-low}
 
 -- what is asked of a step on numbers of `width` bits: it keeps XOR, and doubles a number whose double fits
 pub record IsStep (step : ℕ → ℕ) (width : ℕ) : Type 0 where
   pub keeps : (a b : ℕ) → step (bit_xor a b) ≡ bit_xor (step a) (step b)
   pub doubles : (a : ℕ) → a * 2 < 2 ^ width → step a ≡ a * 2
+
+-- a shift left modulo a polynomial is one
+pub shift-step : (step : ℕ → ℕ) (k p : ℕ) → ((v : ℕ) → step v ≡ shift_up k p v) → IsStep step (suc k)
+shift-step step k p is = record {
+  keeps = λ a b. is (bit_xor a b) ∙ shift_up-xor k p a b ∙ sym (ap₂ bit_xor (is a) (is b));
+  doubles = λ a h. is a ∙ shift_up-low k p a (omega (arith, pow-suc 2 k));
+}
 
 pub record Linear (step f : ℕ → ℕ) : Type 0 where
   pub sums : (a b : ℕ) → f (bit_xor a b) ≡ bit_xor (f a) (f b)
@@ -89,14 +97,14 @@ module _ {step : ℕ → ℕ} {width : ℕ} (is : IsStep step width) where
   pub by_one : (f : ℕ → ℕ) → Linear step f → (a : ℕ) → a < 2 ^ width → f a ≡ times step width a (f 1)
   by_one f l a h = ap f (sym (product-one a h)) ∙ linear-of-times f l width a 1
 
--- ---- a loop over the bits, the lowest first: the sum so far, and the product of the bits that are left with what is stepped
+-- ---- a loop over the terms of a, the lowest first: the sum so far, and the product of the terms from i on with what is stepped
 
--- the sum, by the lowest bit
+-- the sum, by the term i
 pub bit-taken : (sum bits stepped : ℕ) → bits % 2 ≡ 1 → bit_xor sum stepped ≡ bit_xor sum (bit_times (bits % 2) stepped)
 bit-taken sum bits stepped e = rw e
 
-pub bit-passed : (sum bits stepped : ℕ) → bits % 2 ≡ 0 → sum ≡ bit_xor sum (bit_times (bits % 2) stepped)
-bit-passed sum bits stepped e = rw e (sym (xor_zero_r sum))
+pub bit-passed : (sum bits stepped : ℕ) → ¬ bits % 2 ≡ 1 → sum ≡ bit_xor sum (bit_times (bits % 2) stepped)
+bit-passed sum bits stepped n = let e : bits % 2 ≡ 0 = omega arith in rw e (sym (xor_zero_r sum))
 
 module _ {step : ℕ → ℕ} {width : ℕ} (is : IsStep step width) where
   -- the lowest bit taken into the sum, the others pick from the steps of what is stepped once
@@ -107,20 +115,22 @@ module _ {step : ℕ → ℕ} {width : ℕ} (is : IsStep step width) where
       rw ((linear-times is n (bits / 2)).steps stepped)
       (xor_assoc sum (bit_times (bits % 2) stepped) (step (times step n (bits / 2) stepped)))
 
-  pub loop-turn : (sum sum' n left bits stepped next end : ℕ) → left ≡ suc n → sum' ≡ bit_xor sum (bit_times (bits % 2) stepped)
-      → next ≡ step stepped → bit_xor sum (times step left bits stepped) ≡ end → bit_xor sum' (times step (left - 1) (bits / 2) next) ≡ end
-  loop-turn sum sum' n left bits stepped next end e f g now =
-      let less : left - 1 ≡ n = omega arith in rw (less, f, g) (times-turn n bits stepped sum ∙ rw e at now)
+  pub loop-turn : (n i a sum sum' stepped next end : ℕ) → i < n → sum' ≡ bit_xor sum (bit_times (a / 2 ^ i % 2) stepped)
+      → next ≡ step stepped → bit_xor sum (times step (n - i) (a / 2 ^ i) stepped) ≡ end
+      → bit_xor sum' (times step (n - (i + 1)) (a / 2 ^ (i + 1)) next) ≡ end
+  loop-turn n i a sum sum' stepped next end h f g now =
+      let left : n - i ≡ suc (n - (i + 1)) = omega arith in
+      rw (← shr-shr a i 1, f, g) (times-turn (n - (i + 1)) (a / 2 ^ i) stepped sum ∙ rw left at now)
 
--- no bit is left
-pub loop_ended : (step : ℕ → ℕ) (sum bits stepped left end : ℕ) → left ≡ 0 → bit_xor sum (times step left bits stepped) ≡ end → sum ≡ end
+-- no term is left
+pub loop_ended : (step : ℕ → ℕ) (n i sum bits stepped end : ℕ) → n ≤ i → bit_xor sum (times step (n - i) bits stepped) ≡ end → sum ≡ end
 unfolding times
-loop_ended step sum bits stepped left end e now = sym (xor_zero_r sum) ∙ rw e at now
+loop_ended step n i sum bits stepped end h now = let e : n - i ≡ 0 = omega arith in sym (xor_zero_r sum) ∙ rw e at now
 
 -- ---- seeds
 
 pub seed-step : IsStep seed_after 32
-seed-step = record { keeps = step-xor; doubles = λ s h. step-low s (omega arith) }
+seed-step = shift-step seed_after 31 _ seed_after-shifts
 
 -- k steps are the product with the seed k steps after 1
 pub steps-product : (k s : ℕ) → s < 2 ^ 32 → iterate k seed_after s ≡ seed_product s (iterate k seed_after 1)

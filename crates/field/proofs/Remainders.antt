@@ -1,7 +1,7 @@
 -- A word's remainder by the generator polynomial for R = 4, as the number that its four bytes spell: one, four or eight more bytes
 -- give the next remainder, four and eight by tables of half bytes; and the remainder gives the word's syndromes and its parity.
 -- Assumes nothing.
-use Rattle.std.proofs.Common.{◌≡◌, ℕ, zero, suc, ◌+◌, ◌*◌, ◌/◌, ◌%◌, ◌^◌, ◌<◌, ◌≤◌, List, ◌∷◌, ◌++◌, length, get_or, take, drop, sym, refl, ap, ◌∙◌, ap₂, mod-lt, arith, lit<, take-append-drop, drop_of_length-le, drop-cons, pow_pos}
+use Rattle.std.proofs.Common.{◌≡◌, ℕ, zero, suc, ◌+◌, ◌*◌, ◌/◌, ◌%◌, ◌^◌, ◌<◌, ◌≤◌, List, [], ◌∷◌, ◌++◌, length, get_or, drop, sym, refl, ap, ◌∙◌, ap₂, mod-lt, arith, lit<, drop-cons, pow_pos}
 use lib.Bits.{bit_xor, xor_shr, xor_mod, xor_comm, xor_self, xor_shifted}
 use lib.Pow.{mod-pow-add}
 use Rattle.field.specs.Bytes.{AllBytes, xor_lists, to_big_endian}
@@ -104,18 +104,17 @@ eight-halves i x h = all-halves i (i * 4 + i * 4) up_eight (λ y. eight-value i 
 
 -- ---- a turn of a loop
 
--- what is left of the word from j on takes the number's values to the word's
-abbrev pub Goes : List ℕ → ℕ → ℕ → Type 0
-Goes word x j = (i : ℕ) → i < 4 → horner i (number_at i x) (drop j word) ≡ value_at i word
+-- what is left of the word takes the number's values to the word's
+abbrev pub Goes : List ℕ → ℕ → List ℕ → Type 0
+Goes word x left = (i : ℕ) → i < 4 → horner i (number_at i x) left ≡ value_at i word
 
-pub goes-from : (word : List ℕ) (x j : ℕ) → Leaves (take j word) x → Goes word x j
-goes-from word x j l i h =
-    ap (λ (v : ℕ). horner i v (drop j word)) (l i h) ∙ sym (horner-append i 0 (take j word) (drop j word))
-    ∙ ap (horner i 0) (take-append-drop j word)
+pub goes-from : (word front left : List ℕ) (x : ℕ) → front ++ left ≡ word → Leaves front x → Goes word x left
+goes-from word front left x e l i h =
+    ap (λ (v : ℕ). horner i v left) (l i h) ∙ sym (horner-append i 0 front left) ∙ ap (horner i 0) e
 
-pub goes_end : (word : List ℕ) (x j : ℕ) → length word ≤ j → Goes word x j → Leaves word x
+pub goes_end : (word left : List ℕ) (x : ℕ) → left ≡ [] → Goes word x left → Leaves word x
 unfolding horner
-goes_end word x j e g i h = ap (horner i (number_at i x)) (sym (drop_of_length-le word e)) ∙ g i h
+goes_end word left x e g i h = ap (horner i (number_at i x)) (sym e) ∙ g i h
 
 pub next-byte : (word : List ℕ) (j k : ℕ) → k ≡ suc j → j < length word → drop j word ≡ get_or word j 0 ∷ drop k word
 next-byte word j k e h = rw e (drop-cons word j 0 h)
@@ -131,26 +130,25 @@ byte-value i x b hx hb =
     let z : x / 16777216 % 256 ≡ 0 = omega arith in
     simp (p, q, r, s, z, power_zero)
 
-pub byte-turn : (word : List ℕ) (x j : ℕ) → j < length word → get_or word j 0 < 2 ^ 8 → x < 2 ^ 24 → Goes word x j
-    → Goes word (x * 256 + get_or word j 0) (j + 1)
+pub byte-turn : (word left left' : List ℕ) (x b : ℕ) → left ≡ b ∷ left' → b < 2 ^ 8 → x < 2 ^ 24 → Goes word x left
+    → Goes word (x * 256 + b) left'
 unfolding horner
-byte-turn word x j h hb hx g i hi =
-    ap (λ (v : ℕ). horner i v (drop (j + 1) word)) (byte-value i x (get_or word j 0) hx hb)
-    ∙ ap (horner i (number_at i x)) (sym (next-byte word j (j + 1) (omega arith) h)) ∙ g i hi
+byte-turn word left left' x b e hb hx g i hi =
+    ap (λ (v : ℕ). horner i v left') (byte-value i x b hx hb) ∙ ap (horner i (number_at i x)) (sym e) ∙ g i hi
 
 -- four more bytes
-pub four-turn : (word : List ℕ) (x y j k : ℕ) → drop j word ≡ to_big_endian y ++ drop k word → Goes word x j
-    → Goes word (bit_xor y (at_halves 8 (halves_table up_four) x)) k
-four-turn word x y j k e g i h =
+pub four-turn : (word left left' : List ℕ) (x y : ℕ) → left ≡ to_big_endian y ++ left' → Goes word x left
+    → Goes word (bit_xor y (at_halves 8 (halves_table up_four) x)) left'
+four-turn word left left' x y e g i h =
     let u = number_at i x in
     let v = number_at i y in
-    ap (λ (s : ℕ). horner i s (drop k word))
+    ap (λ (s : ℕ). horner i s left')
     (value-xor i y (at_halves 8 (halves_table up_four) x) ∙ ap (bit_xor v) (four-halves i x h) ∙ xor_comm v (times_power (i * 4) u)
     ∙ sym (four-more i u y))
-    ∙ sym (horner-append i u (to_big_endian y) (drop k word)) ∙ ap (horner i u) (sym e) ∙ g i h
+    ∙ sym (horner-append i u (to_big_endian y) left') ∙ ap (horner i u) (sym e) ∙ g i h
 
 -- eight more bytes
-module _ (word : List ℕ) (x y z j k m : ℕ) where
+module _ (word left left' : List ℕ) (x y z : ℕ) where
   eight-value-more : (i : ℕ) → i < 4
       → number_at i (bit_xor (bit_xor z (at_halves 8 (halves_table up_four) y)) (at_halves 8 (halves_table up_eight) x))
       ≡ horner i (horner i (number_at i x) (to_big_endian y)) (to_big_endian z)
@@ -166,13 +164,12 @@ module _ (word : List ℕ) (x y z j k m : ℕ) where
       ∙ ap₂ bit_xor (value-xor i z a ∙ ap (bit_xor w) (four-halves i y h)) (eight-halves i x h) ∙ e
       ∙ sym (ap (λ (s : ℕ). horner i s (to_big_endian z)) (four-more i u y) ∙ four-more i _ z)
 
-  pub eight-turn : drop j word ≡ to_big_endian y ++ drop k word → drop k word ≡ to_big_endian z ++ drop m word → Goes word x j
-      → Goes word (bit_xor (bit_xor z (at_halves 8 (halves_table up_four) y)) (at_halves 8 (halves_table up_eight) x)) m
-  eight-turn ey ez g i h =
-      ap (λ (s : ℕ). horner i s (drop m word)) (eight-value-more i h)
-      ∙ sym (horner-append i (horner i (number_at i x) (to_big_endian y)) (to_big_endian z) (drop m word))
-      ∙ ap (horner i (horner i (number_at i x) (to_big_endian y))) (sym ez)
-      ∙ sym (horner-append i (number_at i x) (to_big_endian y) (drop k word)) ∙ ap (horner i (number_at i x)) (sym ey) ∙ g i h
+  pub eight-turn : left ≡ to_big_endian y ++ (to_big_endian z ++ left') → Goes word x left
+      → Goes word (bit_xor (bit_xor z (at_halves 8 (halves_table up_four) y)) (at_halves 8 (halves_table up_eight) x)) left'
+  eight-turn e g i h =
+      ap (λ (s : ℕ). horner i s left') (eight-value-more i h)
+      ∙ sym (horner-append i (horner i (number_at i x) (to_big_endian y)) (to_big_endian z) left')
+      ∙ sym (horner-append i (number_at i x) (to_big_endian y) (to_big_endian z ++ left')) ∙ ap (horner i (number_at i x)) (sym e) ∙ g i h
 
 -- ---- what the remainder is for
 

@@ -1,12 +1,9 @@
--- All four answered sums are 0 just where the word vanishes at a^0 .. a^(R-1); a fold over the word gives them. Assumes nothing.
-use Rattle.std.proofs.Common.{◌≡◌, ℕ, zero, suc, ◌^◌, ◌<◌, ◌≤◌, Bool, true, false, ltb, ◌↔◌, List, [], ◌∷◌, get_or, replicate, sym, refl, ap, ◌∙◌, ap₂, inl, inr, arith, lit<, le-ltb, lt-ltb}
-use mathlib.Core.List.{foldl}
+-- All four answered sums are 0 just where the word vanishes at a^0 .. a^(R-1); they are bytes. Assumes nothing.
+use Rattle.std.proofs.Common.{◌≡◌, ℕ, zero, suc, ◌^◌, ◌<◌, ◌≤◌, Bool, true, false, ltb, ◌↔◌, List, ◌∷◌, get_or, replicate, sym, refl, ap, ◌∙◌, ap₂, inl, inr, arith, lit<, le-ltb, lt-ltb}
 use native.Mathlib.Decide.{dec_lt}
-use lib.Bits.{bit_xor}
 use lib.ListN.{get_or-replicate}
 use Rattle.field.specs.Bytes.{AllBytes}
-use Rattle.field.specs.CheckBytes.{CheckCount, times_power, horner, value_at, Vanishes, or_zero, syndrome_at, syndromes}
-use Rattle.field.specs.Loops.{sum_after, sums_after}
+use Rattle.field.specs.CheckBytes.{CheckCount, value_at, Vanishes, or_zero, syndrome_at, syndromes}
 use Rattle.field.proofs.Horner.{horner-lt}
 
 pub checks-bounds : {R : ℕ} → CheckCount R → (2 ≤ R) × (R ≤ 4)
@@ -50,28 +47,3 @@ unfolding syndromes
 syndromes-bytes R word hs =
     let byte : (i : ℕ) → syndrome_at R word i < 2 ^ 8 = (λ i. zero-or-lt (ltb i R) (value_at i word) (horner-lt i 0 word (lit< tt) hs)) in
     (byte 0, (byte 1, (byte 2, (byte 3, tt))))
-
--- ---- the sums as a fold over the word
-
-fold-zero : (word : List ℕ) → foldl (λ (s b : ℕ). zero) zero word ≡ zero
-fold-zero [] = refl
-fold-zero (b ∷ bs) = fold-zero bs
-
-sum-fold : (inside : Bool) (i : ℕ) (word : List ℕ)
-    → foldl (λ s b. or_zero inside (bit_xor (times_power i s) b)) 0 word ≡ or_zero inside (value_at i word)
-unfolding horner
-sum-fold true i word = refl
-sum-fold false i word = fold-zero word
-
-split-fold : (R a b c d : ℕ) (word : List ℕ)
-    → foldl (sums_after R) (a ∷ b ∷ c ∷ d ∷ []) word
-    ≡ foldl (sum_after R 0) a word ∷ foldl (sum_after R 1) b word ∷ foldl (sum_after R 2) c word ∷ foldl (sum_after R 3) d word ∷ []
-unfolding sums_after
-split-fold R a b c d [] = refl
-split-fold R a b c d (x ∷ xs) = split-fold R (sum_after R 0 a x) (sum_after R 1 b x) (sum_after R 2 c x) (sum_after R 3 d x) xs
-
-pub syndromes-fold : (R : ℕ) (word : List ℕ) → foldl (sums_after R) (replicate 4 0) word ≡ syndromes R word
-unfolding syndromes
-syndromes-fold R word =
-    split-fold R 0 0 0 0 word
-    ∙ ap₂ ◌∷◌ (sum-fold (ltb 0 R) 0 word) (ap₂ ◌∷◌ (sum-fold (ltb 1 R) 1 word) (ap₂ ◌∷◌ (sum-fold (ltb 2 R) 2 word) (ap₂ ◌∷◌ (sum-fold (ltb 3 R) 3 word) refl)))

@@ -1,6 +1,6 @@
 -- Document 01, "Check bytes, letters, screen": the field, the check sums (syndromes) and the check bytes (parity).
 -- A word is a list of bytes, "first byte the highest coefficient". Assumes nothing.
-use Rattle.std.specs.Prelude.{◌≡◌, ℕ, zero, suc, ◌<◌, Bool, true, false, ◌⊎◌, List, [], ◌∷◌, ◌++◌, replicate, bit_xor, nat_lt}
+use Rattle.std.specs.Prelude.{◌≡◌, refl, ℕ, zero, suc, ◌<◌, Bool, true, false, ◌⊎◌, List, [], ◌∷◌, ◌++◌, replicate, bit_xor, nat_lt}
 use mathlib.Core.List.{foldl}
 use Rattle.field.specs.Bytes.{xor_lists}
 use Rattle.field.specs.Shift.{shift_up}
@@ -16,6 +16,10 @@ CheckCount R = (R ≡ 2) ⊎ (R ≡ 4)
 -- x times the root a = 2
 unfoldable pub double : ℕ → ℕ
 double = shift_up 7 field_polynomial
+
+pub double-shifts : (x : ℕ) → double x ≡ shift_up 7 field_polynomial x
+unfolding double
+double-shifts x = refl
 
 -- x times a^i
 unfoldable pub times_power : ℕ → ℕ → ℕ

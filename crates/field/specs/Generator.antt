@@ -1,5 +1,5 @@
 -- Document 01, "Generator and seed schedule". All state is 32 bits wide. Assumes nothing.
-use Rattle.std.specs.Prelude.{ℕ, zero, suc, ◌+◌, ◌*◌, ◌/◌, ◌%◌, ◌^◌, ◌<◌, List, [], ◌∷◌, bit_xor}
+use Rattle.std.specs.Prelude.{◌≡◌, refl, ℕ, zero, suc, ◌+◌, ◌*◌, ◌/◌, ◌%◌, ◌^◌, ◌<◌, List, [], ◌∷◌, bit_xor}
 use Rattle.field.specs.declared.generator.Draw.{Draw}
 use Rattle.field.specs.Shift.{shift_up}
 
@@ -43,6 +43,10 @@ IsSeed s = (0 < s) × (s < 2 ^ 32)
 -- "The schedule steps a seed": the seed after s
 unfoldable pub seed_after : ℕ → ℕ
 seed_after = shift_up 31 schedule_polynomial
+
+pub seed_after-shifts : (s : ℕ) → seed_after s ≡ shift_up 31 schedule_polynomial s
+unfolding seed_after
+seed_after-shifts s = refl
 
 -- f applied k times: with `seed_after`, the seed after k steps
 unfoldable pub iterate : ℕ → (ℕ → ℕ) → ℕ → ℕ

@@ -1,19 +1,8 @@
--- One turn of a loop over a word, and remainders by the generator polynomial for R = 4, which the contracts of private functions
+-- Remainders by the generator polynomial for R = 4, as the number that four bytes spell, which the contracts of private functions
 -- cite. No sentence of document 01 stands here. Assumes nothing.
-use Rattle.std.specs.Prelude.{◌≡◌, ℕ, zero, suc, ◌+◌, ◌*◌, ◌/◌, ◌%◌, ◌^◌, ◌<◌, List, [], ◌∷◌, bit_xor, nat_lt, slice_index}
+use Rattle.std.specs.Prelude.{◌≡◌, ℕ, zero, suc, ◌+◌, ◌*◌, ◌/◌, ◌%◌, ◌^◌, ◌<◌, List, bit_xor, slice_index}
 use Rattle.field.specs.Bytes.{from_big_endian, to_big_endian, table_of}
-use Rattle.field.specs.CheckBytes.{times_power, value_at, or_zero, parity}
-
--- check sum i, so far s, after one more byte
-abbrev pub sum_after : ℕ → ℕ → ℕ → ℕ → ℕ
-sum_after R i s b = or_zero (nat_lt i R) (bit_xor (times_power i s) b)
-
--- all four of them
-unfoldable pub sums_after : ℕ → List ℕ → ℕ → List ℕ
-sums_after R s b =
-    sum_after R 0 (slice_index s 0) b ∷ sum_after R 1 (slice_index s 1) b ∷ sum_after R 2 (slice_index s 2) b ∷ sum_after R 3 (slice_index s 3) b ∷ []
-
--- ---- remainders, as the number that four bytes spell
+use Rattle.field.specs.CheckBytes.{value_at, parity}
 
 -- the value of a number's four bytes at a^i
 abbrev pub number_at : ℕ → ℕ → ℕ

@@ -1,34 +1,12 @@
-ghost use Rattle.std.specs.Prelude.{◌≡◌, ◌+◌, ◌≤◌, [], ◌∷◌, ◌++◌, length, take, drop, replicate};
-ghost use Rattle.field.specs.Bytes.{from_big_endian, to_big_endian, same_bytes};
+ghost use Rattle.std.specs.Prelude.{◌≡◌, ◌+◌, ◌≤◌, ◌++◌, length, take, drop};
+ghost use Rattle.field.specs.Bytes.{from_big_endian};
 
-// The number of four bytes, the most significant first.
-pub fn join(a: u8, b: u8, c: u8, d: u8) -> u32
-    ensures { result ≡ from_big_endian (a ∷ b ∷ c ∷ d ∷ []) }
+// The number that the four bytes from a place on spell, the most significant first.
+pub fn number_at(bytes: &[u8], at: usize) -> u32
+    requires { at + 4 ≤ length bytes.now }
+    ensures { result ≡ from_big_endian (take 4 (drop at bytes.now)) }
 {
-    (((a as u32) * 256 + (b as u32)) * 256 + (c as u32)) * 256 + (d as u32)
-}
-
-// The four bytes of a number, the most significant first.
-pub fn split(n: u32) -> [u8; 4]
-    ensures { result ≡ to_big_endian n }
-{
-    [
-        (n / 16777216) as u8,
-        (n / 65536 % 256) as u8,
-        (n / 256 % 256) as u8,
-        (n % 256) as u8,
-    ]
-}
-
-// Sets every byte of a part to 0.
-pub fn clear(part: &mut [u8])
-    ensures { part.new ≡ replicate (length part.old) 0 }
-{
-    let mut i = 0;
-    while i < part.len() {
-        part[i] = 0;
-        i += 1;
-    }
+    u32::from_be_bytes([bytes[at], bytes[at + 1], bytes[at + 2], bytes[at + 3]])
 }
 
 // Copies bytes to the start of a buffer.
@@ -36,11 +14,7 @@ pub fn copy(from: &[u8], to: &mut [u8])
     requires { length from.now ≤ length to.old }
     ensures { to.new ≡ from.now ++ drop (length from.now) to.old }
 {
-    let mut i = 0;
-    while i < from.len() {
-        to[i] = from[i];
-        i += 1;
-    }
+    to[..from.len()].copy_from_slice(from);
 }
 
 // Copies bytes to the start of a buffer, and others behind them.
@@ -51,19 +25,4 @@ pub fn copy_both(front: &[u8], back: &[u8], to: &mut [u8])
     let start = front.len();
     copy(front, &mut *to);
     copy(back, &mut to[start..]);
-}
-
-// Whether `bytes` starts with `front`.
-pub fn starts_with(bytes: &[u8], front: &[u8]) -> bool
-    requires { length front.now ≤ length bytes.now }
-    ensures { result ≡ same_bytes (take (length front.now) bytes.now) front.now }
-{
-    let mut i = 0;
-    while i < front.len() {
-        if bytes[i] != front[i] {
-            return false;
-        }
-        i += 1;
-    }
-    true
 }

@@ -1,6 +1,6 @@
 ghost use Rattle.std.specs.Prelude.{◌≡◌};
 ghost use Rattle.field.specs.Bytes.{padded};
-ghost use Rattle.field.specs.CheckBytes.{CheckCount, double, syndromes, parity};
+ghost use Rattle.field.specs.CheckBytes.{CheckCount, double, times_power, value_at, syndromes, parity};
 
 use crate::check_four;
 
@@ -12,21 +12,26 @@ pub fn times_root(x: u8) -> u8
     if x >= 128 { up ^ 0x1D } else { up }
 }
 
-// The two syndromes of a word. They are numbers and no array in the loop, where an array would be packed and unpacked at each
-// byte; so it is in the other loops over the bytes of a word.
-fn syndromes_two(word: &[u8]) -> [u8; 4]
-    ensures { result ≡ syndromes 2 word.now }
+// `x` times the root's I-th power.
+fn times_power<const I: u8>(x: u8) -> u8
+    ensures { result ≡ times_power I x }
 {
-    let mut zero: u8 = 0;
-    let mut one: u8 = 0;
-    let mut j = 0;
-    while j < word.len() {
-        let b = word[j];
-        zero = zero ^ b;
-        one = times_root(one) ^ b;
-        j += 1;
+    let mut y = x;
+    for _ in 0..I {
+        y = times_root(y);
     }
-    [zero, one, 0, 0]
+    y
+}
+
+// The value of a word at the root's I-th power, by Horner's rule.
+pub(crate) fn value_at<const I: u8>(word: &[u8]) -> u8
+    ensures { result ≡ value_at I word.now }
+{
+    let mut value = 0;
+    for &b in word {
+        value = times_power::<I>(value) ^ b;
+    }
+    value
 }
 
 // The `r` syndromes of a word, as four bytes, those past `r` being 0.
@@ -35,7 +40,7 @@ pub fn syndromes_of(r: u8, word: &[u8]) -> [u8; 4]
     ensures { result ≡ syndromes r word.now }
 {
     if r == 2 {
-        return syndromes_two(word);
+        return [value_at::<0>(word), value_at::<1>(word), 0, 0];
     }
     check_four::syndromes_four(word)
 }
@@ -47,13 +52,11 @@ fn parity_two(message: &[u8]) -> [u8; 4]
 {
     let mut a: u8 = 0;
     let mut b: u8 = 0;
-    let mut j = 0;
-    while j < message.len() {
-        let f = a ^ message[j];
+    for &x in message {
+        let f = a ^ x;
         let f2 = times_root(f);
         a = b ^ (f ^ f2);
         b = f2;
-        j += 1;
     }
     [a, b, 0, 0]
 }

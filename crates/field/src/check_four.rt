@@ -1,17 +1,16 @@
 // Syndromes and parity for R = 4, by remainders: a word of any length and the four bytes that it leaves when it is divided by the
 // generator polynomial have the same syndromes.
-ghost use Rattle.std.specs.Prelude.{◌≡◌, ◌+◌, ◌%◌, ◌<◌, ◌≤◌, ◌++◌, length, drop, slice_index};
-ghost use Rattle.field.specs.Bytes.{padded, to_big_endian};
+ghost use Rattle.std.specs.Prelude.{◌≡◌, ◌<◌, length};
+ghost use Rattle.field.specs.Bytes.{padded};
 ghost use Rattle.field.specs.CheckBytes.{syndromes, parity};
 ghost use Rattle.field.specs.Loops.{Leaves, up_four, up_eight, halves_table, at_halves};
 
-use crate::bytes;
-use crate::check_bytes::times_root;
+use crate::bytes::number_at;
+use crate::check_bytes::value_at;
 
 // What four bytes leave, divided by the generator polynomial, when four bytes 0 come behind them: an entry for each value of each of
-// their eight half bytes, the lowest half byte first. A table by whole bytes would have eight times the entries, and the compiler
-// writes a constant array out at each call.
-const UP_FOUR: [u32; 128] = [
+// their eight half bytes, the lowest half byte first. A table by whole bytes would have eight times the entries.
+static UP_FOUR: [u32; 128] = [
     0x00000000, 0x0F367840, 0x1E6CF080, 0x115A88C0, 0x3CD8FD1D, 0x33EE855D, 0x22B40D9D, 0x2D8275DD,
     0x78ADE73A, 0x779B9F7A, 0x66C117BA, 0x69F76FFA, 0x44751A27, 0x4B436267, 0x5A19EAA7, 0x552F92E7,
     0x00000000, 0xF047D374, 0xFD8EBBE8, 0x0DC9689C, 0xE7016BCD, 0x1746B8B9, 0x1A8FD025, 0xEAC80351,
@@ -31,7 +30,7 @@ const UP_FOUR: [u32; 128] = [
 ];
 
 // The same for eight bytes 0.
-const UP_EIGHT: [u32; 128] = [
+static UP_EIGHT: [u32; 128] = [
     0x00000000, 0xA7D9DBA4, 0x53AFAB55, 0xF47670F1, 0xA6434BAA, 0x019A900E, 0xF5ECE0FF, 0x52353B5B,
     0x51869649, 0xF65F4DED, 0x02293D1C, 0xA5F0E6B8, 0xF7C5DDE3, 0x501C0647, 0xA46A76B6, 0x03B3AD12,
     0x00000000, 0xA2113192, 0x59226239, 0xFB3353AB, 0xB244C472, 0x1055F5E0, 0xEB66A64B, 0x497797D9,
@@ -50,27 +49,30 @@ const UP_EIGHT: [u32; 128] = [
     0xE293AC5D, 0xB96B3775, 0x547E870D, 0x0F861C25, 0x9354FAFD, 0xC8AC61D5, 0x25B9D1AD, 0x7E414A85,
 ];
 
-// The entry of a number's lowest half byte, in the part of a table that starts at `from`.
-fn half_at(table: &[u32; 128], n: u32, from: usize) -> u32
-    requires { from ≤ 112 }
-    ensures { result ≡ slice_index table.now (n % 16 + from) }
-{
-    let half = (n % 16) as usize;
-    table[half + from]
-}
-
 // The XOR of a table's entries for the eight half bytes of a number: the number's own entry, since remainders add up by XOR.
 fn at_halves(table: &[u32; 128], x: u32) -> u32
     ensures { result ≡ at_halves 8 table.now x }
 {
-    half_at(table, x, 0)
-        ^ half_at(table, x >> 4, 16)
-        ^ half_at(table, x >> 8, 32)
-        ^ half_at(table, x >> 12, 48)
-        ^ half_at(table, x >> 16, 64)
-        ^ half_at(table, x >> 20, 80)
-        ^ half_at(table, x >> 24, 96)
-        ^ half_at(table, x >> 28, 112)
+    let mut sum = 0;
+    for k in 0..8 {
+        let half = (x >> (4 * k)) % 16;
+        sum ^= table[(half + 16 * k) as usize];
+    }
+    sum
+}
+
+// What the bytes of a number leave with four bytes 0 behind them.
+fn up_four(x: u32) -> u32
+    ensures { result ≡ at_halves 8 (halves_table up_four) x }
+{
+    at_halves(&UP_FOUR, x)
+}
+
+// And with eight.
+fn up_eight(x: u32) -> u32
+    ensures { result ≡ at_halves 8 (halves_table up_eight) x }
+{
+    at_halves(&UP_EIGHT, x)
 }
 
 // The number that fewer than four bytes spell, which is their remainder.
@@ -78,96 +80,59 @@ fn number_of(word: &[u8]) -> u32
     requires { length word.now < 4 }
     ensures { Leaves word.now result }
 {
-    let mut r: u32 = 0;
-    let mut j = 0;
-    while j < word.len() {
-        r = r * 256 + word[j] as u32;
-        j += 1;
+    let mut r = 0;
+    for &b in word {
+        r = r * 256 + u32::from(b);
     }
     r
 }
 
-// The number that four bytes of a word spell.
-fn four_at(word: &[u8], j: usize) -> u32
-    requires { j + 4 ≤ length word.now }
-    ensures { drop j word.now ≡ to_big_endian result ++ drop (j + 4) word.now }
-{
-    bytes::join(word[j], word[j + 1], word[j + 2], word[j + 3])
-}
-
 // The remainder of fewer than eight bytes.
-fn start_of(fours: &[u32; 128], word: &[u8]) -> u32
-    requires { (fours.now ≡ halves_table up_four) × (length word.now < 8) }
+fn start_of(word: &[u8]) -> u32
+    requires { length word.now < 8 }
     ensures { Leaves word.now result }
 {
     if word.len() < 4 {
         return number_of(word);
     }
-    let j = word.len() - 4;
-    let r = number_of(&word[..j]);
-    four_at(word, j) ^ at_halves(fours, r)
+    let (front, four) = word.split_at(word.len() - 4);
+    number_at(four, 0) ^ up_four(number_of(front))
 }
 
 // The remainder of a word, eight bytes a turn. Of a turn's two walks through a table only one waits for the turn before: with four
 // bytes a turn all would.
-fn remainder_of(fours: &[u32; 128], eights: &[u32; 128], word: &[u8]) -> u32
-    requires { (fours.now ≡ halves_table up_four) × (eights.now ≡ halves_table up_eight) }
+fn remainder_of(word: &[u8]) -> u32
     ensures { Leaves word.now result }
 {
-    let mut j = word.len() % 8;
-    let mut r = start_of(fours, &word[..j]);
-    while j < word.len() {
-        let high = at_halves(fours, four_at(word, j));
-        r = four_at(word, j + 4) ^ high ^ at_halves(eights, r);
-        j += 8;
+    let (start, rest) = word.split_at(word.len() % 8);
+    let mut r = start_of(start);
+    for eight in rest.chunks_exact(8) {
+        let high = up_four(number_at(eight, 0));
+        r = number_at(eight, 4) ^ high ^ up_eight(r);
     }
     r
-}
-
-// The four syndromes of a word, byte by byte.
-fn four_sums(word: &[u8]) -> [u8; 4]
-    ensures { result ≡ syndromes 4 word.now }
-{
-    let mut zero: u8 = 0;
-    let mut one: u8 = 0;
-    let mut two: u8 = 0;
-    let mut three: u8 = 0;
-    let mut j = 0;
-    while j < word.len() {
-        let b = word[j];
-        zero = zero ^ b;
-        one = times_root(one) ^ b;
-        two = times_root(times_root(two)) ^ b;
-        three = times_root(times_root(times_root(three))) ^ b;
-        j += 1;
-    }
-    [zero, one, two, three]
 }
 
 // The four syndromes of a word: those of its remainder, which is 0 for a word without damage.
 pub fn syndromes_four(word: &[u8]) -> [u8; 4]
     ensures { result ≡ syndromes 4 word.now }
 {
-    let r = remainder_of(&UP_FOUR, &UP_EIGHT, word);
+    let r = remainder_of(word);
     if r == 0 {
         return [0, 0, 0, 0];
     }
-    let rest = bytes::split(r);
-    four_sums(&rest)
+    let rest = r.to_be_bytes();
+    [
+        value_at::<0>(&rest),
+        value_at::<1>(&rest),
+        value_at::<2>(&rest),
+        value_at::<3>(&rest),
+    ]
 }
 
-// The number that the four parity bytes of a message spell: the remainder that it leaves with four bytes 0 behind it.
-fn parity_number(fours: &[u32; 128], eights: &[u32; 128], message: &[u8]) -> u32
-    requires { (fours.now ≡ halves_table up_four) × (eights.now ≡ halves_table up_eight) }
-    ensures { to_big_endian result ≡ parity 4 message.now }
-{
-    let r = remainder_of(fours, eights, message);
-    at_halves(fours, r)
-}
-
-// The four parity bytes of a message.
+// The four parity bytes of a message: the remainder that it leaves with four bytes 0 behind it.
 pub fn parity_four(message: &[u8]) -> [u8; 4]
     ensures { result ≡ padded 4 (parity 4 message.now) }
 {
-    bytes::split(parity_number(&UP_FOUR, &UP_EIGHT, message))
+    up_four(remainder_of(message)).to_be_bytes()
 }

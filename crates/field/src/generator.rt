@@ -25,7 +25,7 @@ impl Draw {
         let c = b ^ (b << 5);
         Draw {
             x: c,
-            w: std::num::wrapping_add_u32(self.w, 362437),
+            w: self.w.wrapping_add(362437),
         }
     }
 
@@ -33,11 +33,12 @@ impl Draw {
     pub fn number(self) -> u32
         ensures { result ≡ number_drawn self }
     {
-        std::num::wrapping_add_u32(self.x, self.w)
+        self.x.wrapping_add(self.w)
     }
 }
 
-// The seed that follows `seed` in the schedule.
+// The seed that follows `seed` in the schedule. One generic function for it and `times_root` is no plainer: it needs the shift, the top
+// bit and the polynomial as further members of a trait.
 pub fn step_seed(seed: u32) -> u32
     ensures { result ≡ seed_after seed }
 {

@@ -5,3 +5,4 @@ pub mod bytes;
 pub mod check_bytes;
 mod check_four;
 pub mod generator;
+pub mod polynomial;

@@ -54,14 +54,14 @@ module _ (W F : ℕ) (least : 1 ≤ W) where
       inside = λ j b. in_whole (line + lines) j h b.to;
     }
 
-    pub last_line : {columns : ℕ} → columns ≡ F % W → Lines W F (F / W) 1 columns
-    last_line e = record {
+    pub last_line : {columns : ℕ} → columns ≤ F % W → Lines W F (F / W) 1 columns
+    last_line h = record {
       least = least;
       small = small;
       short = short;
       most = (let m = mod-lt F {m = W} least in omega arith);
       whole = omega arith;
-      inside = rw e in-last;
+      inside = λ j b. in-last j (record { from = b.from; to = b.to; left = (let left = b.left in omega arith) });
     }
 
   -- ---- one after another

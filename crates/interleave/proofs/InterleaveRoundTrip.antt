@@ -3,6 +3,7 @@ use mathlib.Core.Path.{◌≡◌, sym, ap, ◌∙◌}
 use mathlib.Core.Bool.{Bool, true, not}
 use mathlib.Core.List.{List}
 use mathlib.Core.Logic.{inl, inr}
+use Rattle.std.proofs.Common.{Result}
 use Prim.Native.Nat.{ℕ, ◌≤◌}
 use native.Mathlib.Omega.{arith}
 use lib.ListN.{length, take, length-take}
@@ -12,7 +13,7 @@ use Rattle.field.proofs.Tests.{either}
 use Rattle.droplet.specs.declared.card.Card.{Card}
 use Rattle.droplet.specs.Questions.{card_refusal}
 use Rattle.droplet.proofs.LegalCard.{legal}
-use Rattle.interleave.specs.declared.file.ReorderAnswer.{ReorderAnswer}
+use Rattle.droplet.specs.declared.refusal.Refusal.{Refusal}
 use Rattle.interleave.specs.InterleaveCalls.{done, reorder_answer, file_reordered, ReorderPromise}
 use Rattle.interleave.specs.InterleaveRoundTrip.{CallsGiveBack}
 use Rattle.interleave.proofs.Reordering.{reordered-length, reordered-bytes, reordered-back}
@@ -41,7 +42,7 @@ module _ (c : Card) (ws : List ℕ) (fine : card_refusal c ws ≡ 0) where
 -- ---- the calls
 
 -- a call that was done
-module _ (back : Bool) (c : Card) (ws source target : List ℕ) (r : ReorderAnswer) (target' : List ℕ)
+module _ (back : Bool) (c : Card) (ws source target : List ℕ) (r : Result (Unit {0}) Refusal) (target' : List ℕ)
     (p : ReorderPromise back c ws source target r target') (e : reorder_answer r ≡ done) where
   known : Asked back c ws source target
   known = was-asked back c ws source target r target' p e

@@ -2,15 +2,15 @@
 -- Assumes nothing.
 use mathlib.Core.Path.{◌≡◌, refl, sym, subst, ◌∙◌}
 use mathlib.Core.Bool.{Bool}
-use mathlib.Core.List.{List, ◌++◌}
+use mathlib.Core.List.{List}
 use mathlib.Core.Logic.{◌⊎◌, inl, inr}
-use Prim.Native.Nat.{ℕ, ◌+◌, ◌≤◌, ◌<◌}
+use Prim.Native.Nat.{ℕ, ◌≤◌, ◌<◌}
 use native.Mathlib.Omega.{arith}
-use lib.ListN.{length, get_or, take, drop, set, length-take, length-drop, length-set, take-append-drop}
-use lib.Seq.{get_or-take, get_or-drop, get_or-set_same, get_or-set_other, ext_get_or}
+use lib.ListN.{length, get_or, set, length-set}
+use lib.Seq.{get_or-set_same, get_or-set_other, ext_get_or}
 use Rattle.interleave.specs.Interleaving.{reordered}
 use Rattle.interleave.specs.Moves.{Moved, FileMoved}
-use Rattle.interleave.proofs.Reordering.{to-lt, from-lt, to-injective, arrives, reordered-length, reordered-at}
+use Rattle.interleave.proofs.Reordering.{to-injective, arrives, reordered-length, reordered-at}
 
 -- ---- any move
 
@@ -73,26 +73,12 @@ module _ (back : Bool) (W F : ℕ) (least : 1 ≤ W) {source : List ℕ} where
       let same = to-injective W least back F j k (inside j (both.first j p)) (inside k (both.second k q)) e in
       apart k (subst P same p) q)
 
-  module _ {before after : List ℕ} (enough : F ≤ length source) (room : F ≤ length before) (m : FileMoved back W F (λ j. j < F) source before after) where
-    file-front : take F after ≡ reordered back W (take F source)
-    file-front =
-        let file = take F source in
-        let long = m.long in
-        let size : length file ≡ F = simp length-take (omega arith) in
-        let r = reordered-length W least back file in
-        ext_get_or 0 (take F after) (reordered back W file) (simp length-take (omega arith)) (λ p h.
-        let inside : p < F = (let t = length-take F after in omega arith) in
-        let at = arrives W least back F p inside in
-        let from = from-lt W least back F at.byte at.within in
-        let byte = reordered-at W least back file F at.byte size at.within ∙ get_or-take F source _ 0 from in
-        get_or-take F after p 0 inside ∙ rw (← at.there) (m.moved at.byte at.within ∙ sym byte))
-
-    file-rest : drop F after ≡ drop F before
-    file-rest =
-        let long = m.long in
-        ext_get_or 0 (drop F after) (drop F before) (simp length-drop (omega arith)) (λ p h.
-        rw (get_or-drop F after p 0, get_or-drop F before p 0) (m.kept (F + p) (λ j b e. let t = to-lt W least back F j b in omega arith)))
-
-    -- all of it
-    pub file-all : after ≡ reordered back W (take F source) ++ drop F before
-    file-all = sym (take-append-drop F after) ∙ rw (file-front, file-rest)
+  -- all of it, between two lists of its length
+  pub file-all : {before after : List ℕ} → length source ≡ F → length before ≡ F → FileMoved back W F (λ j. j < F) source before after
+      → after ≡ reordered back W source
+  file-all {after = after} size room m =
+      let long = m.long in
+      let r = reordered-length W least back source in
+      ext_get_or 0 after (reordered back W source) (omega arith) (λ p h.
+      let at = arrives W least back F p (omega arith) in
+      rw (← at.there) (m.moved at.byte at.within ∙ sym (reordered-at W least back source F at.byte size at.within)))

@@ -2,7 +2,8 @@
 use mathlib.Core.Path.{◌≡◌, sym, ◌∙◌}
 use mathlib.Core.Bool.{Bool, ◌&&◌}
 use mathlib.Core.List.{List, ◌++◌}
-use mathlib.Core.Logic.{inl, inr}
+use mathlib.Core.Logic.{◌⊎◌, inl, inr}
+use Rattle.std.proofs.Common.{Result, Ok, Err}
 use Prim.Native.Nat.{ℕ, ◌≤◌, ◌<◌}
 use native.Mathlib.Omega.{arith}
 use lib.Dec.{eqb, leb}
@@ -13,32 +14,31 @@ use Rattle.droplet.specs.declared.card.Card.{Card}
 use Rattle.droplet.specs.Questions.{card_refusal}
 use Rattle.droplet.proofs.Conjunctions.{and-true, said-yes}
 use Rattle.droplet.proofs.CardAnswers.{SaysNo}
-use Rattle.interleave.specs.declared.file.ReorderAnswer.{ReorderAnswer}
-use Rattle.interleave.specs.declared.file.ReorderAnswer.TheVariants.{Done, Refused}
+use Rattle.droplet.specs.declared.refusal.Refusal.{Refusal}
+use Rattle.droplet.specs.declared.refusal.Refusal.TheVariants.{FileBuffer}
+use Rattle.droplet.specs.Refusals.{refusal_number}
 use Rattle.interleave.specs.InterleaveCalls.{both_long, reorder_refusal, done, refused, reorder_answer, file_reordered, reorder_file, ReorderPromise}
 
 module _ (back : Bool) (c : Card) (ws source target : List ℕ) where
   -- question n is the first that says no
-  stops : (n : ℕ) → SaysNo (reorder_refusal c ws (length source) (length target)) n → ReorderPromise back c ws source target (Refused n) target
+  stops : (q : Refusal) → SaysNo (reorder_refusal c ws (length source) (length target)) (refusal_number q)
+      → ReorderPromise back c ws source target (Err q) target
   unfolding reorder_file
-  stops n s =
-      let no = ne_eqb n 0 s.not-zero in
+  stops q s =
+      let no = ne_eqb (refusal_number q) 0 s.not-zero in
       record { says = rw (s.number, no); leaves = rw (s.number, no) }
 
-  pub illegal : (n : ℕ) → SaysNo (card_refusal c ws) n → ReorderPromise back c ws source target (Refused n) target
+  pub illegal : (q : Refusal) → SaysNo (card_refusal c ws) (refusal_number q) → ReorderPromise back c ws source target (Err q) target
   unfolding reorder_refusal
-  illegal n s = stops n (record { number = rw (s.number, ne_eqb n 0 s.not-zero); not-zero = s.not-zero })
+  illegal q s = stops q (record { number = rw (s.number, ne_eqb (refusal_number q) 0 s.not-zero); not-zero = s.not-zero })
 
   module _ (legal : card_refusal c ws ≡ 0) where
-    pub source-short : length source < c.f → ReorderPromise back c ws source target (Refused 28) target
+    pub too_short : (length source < c.f) ⊎ ((c.f ≤ length source) × (length target < c.f)) → ReorderPromise back c ws source target (Err FileBuffer) target
     unfolding reorder_refusal both_long
-    source-short h = stops 28 (record { number = rw (legal, lt-leb c.f (length source) h); not-zero = λ e. omega arith })
-
-    pub target-short : c.f ≤ length source → length target < c.f → ReorderPromise back c ws source target (Refused 28) target
-    unfolding reorder_refusal both_long
-    target-short h g =
-        stops 28 (record {
-          number = rw (legal, le-leb c.f (length source) h, lt-leb c.f (length target) g);
+    too_short (inl h) = stops FileBuffer (record { number = rw (legal, lt-leb c.f (length source) h); not-zero = λ e. omega arith })
+    too_short (inr (long, h)) =
+        stops FileBuffer (record {
+          number = rw (legal, le-leb c.f (length source) long, lt-leb c.f (length target) h);
           not-zero = λ e. omega arith;
         })
 
@@ -48,12 +48,12 @@ module _ (back : Bool) (c : Card) (ws source target : List ℕ) where
       unrefused = rw (legal, le-leb c.f (length source) from, le-leb c.f (length target) to)
 
       pub moved : (after : List ℕ) → after ≡ file_reordered back c (take c.f source) ++ drop c.f target
-          → ReorderPromise back c ws source target Done after
+          → ReorderPromise back c ws source target (Ok tt) after
       unfolding reorder_file
       moved after e = record { says = rw unrefused; leaves = rw unrefused e }
 
       -- so such a call is done
-      pub goes_through : (r : ReorderAnswer) (after : List ℕ) → ReorderPromise back c ws source target r after
+      pub goes_through : (r : Result (Unit {0}) Refusal) (after : List ℕ) → ReorderPromise back c ws source target r after
           → (reorder_answer r ≡ done) × (after ≡ file_reordered back c (take c.f source) ++ drop c.f target)
       unfolding reorder_file
       goes_through r after p = (rw unrefused at p.says, rw unrefused at p.leaves)
@@ -81,7 +81,7 @@ module _ (back : Bool) (c : Card) (ws source target : List ℕ) where
         | inr f ↦ absurd (eqb-false (card_refusal c ws) 0 f (rw f at e))
       ]
 
-  pub was-asked : (r : ReorderAnswer) (after : List ℕ) → ReorderPromise back c ws source target r after → reorder_answer r ≡ done → Asked
+  pub was-asked : (r : Result (Unit {0}) Refusal) (after : List ℕ) → ReorderPromise back c ws source target r after → reorder_answer r ≡ done → Asked
   unfolding reorder_file
   was-asked r after p e =
       let R = reorder_refusal c ws (length source) (length target) in

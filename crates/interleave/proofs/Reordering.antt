@@ -56,8 +56,8 @@ module _ (W : ℕ) (least : 1 ≤ W) where
 
   pub reordered-length : (back : Bool) (file : List ℕ) → length (reordered back W file) ≡ length file
   unfolding reordered
-  reordered-length true file = omega (arith, deinterleave-length W least file)
-  reordered-length false file = omega (arith, interleave-length W least file)
+  reordered-length true file = omega (arith, interleave-length W least file, deinterleave-length W least file)
+  reordered-length false file = omega (arith, interleave-length W least file, deinterleave-length W least file)
 
   pub reordered-at : (back : Bool) (file : List ℕ) (F j : ℕ) → length file ≡ F → j < F
       → get_or (reordered back W file) (to_place back W F j) 0 ≡ get_or file (from_place back W F j) 0

@@ -1,10 +1,10 @@
 -- Document 02, Item 14: the questions of dealing and its inverse, what the two calls answer and what they leave in the target.
 -- Assumes nothing.
-use Rattle.std.specs.Prelude.{◌≡◌, Bool, true, false, cond, ◌&&◌, List, ◌++◌, ℕ, eqb, leb, length, take, drop}
+use Rattle.std.specs.Prelude.{◌≡◌, Bool, true, false, cond, ◌&&◌, List, ◌++◌, ℕ, eqb, leb, length, take, drop, Result, Ok, Err}
 use Rattle.droplet.specs.declared.card.Card.{Card}
 use Rattle.droplet.specs.Questions.{card_refusal}
-use Rattle.interleave.specs.declared.file.ReorderAnswer.{ReorderAnswer}
-use Rattle.interleave.specs.declared.file.ReorderAnswer.TheVariants as answer
+use Rattle.droplet.specs.declared.refusal.Refusal.{Refusal}
+use Rattle.droplet.specs.Refusals.{refusal_number}
 use Rattle.interleave.specs.Interleaving.{reordered}
 
 -- 28: "a source or target of fewer than F bytes comes next"; both by their lengths
@@ -20,9 +20,9 @@ pub data Reordered : Type 0 where
   done : Reordered
   refused : ℕ → Reordered
 
-abbrev pub reorder_answer : ReorderAnswer → Reordered
-reorder_answer answer.Done = done
-reorder_answer (answer.Refused n) = refused n
+abbrev pub reorder_answer : Result (Unit {0}) Refusal → Reordered
+reorder_answer (Ok u) = done
+reorder_answer (Err q) = refused (refusal_number q)
 
 -- the answer with the target after the call
 pub data ReorderEnd : Type 0 where
@@ -46,13 +46,13 @@ reorder_file back c weights source target =
     (ended (refused (reorder_refusal c weights (length source) (length target))) target)
 
 -- the promise of both calls: answer, and the target at exit
-pub record ReorderPromise (back : Bool) (c : Card) (weights source target : List ℕ) (r : ReorderAnswer) (target' : List ℕ) : Type 0 where
+pub record ReorderPromise (back : Bool) (c : Card) (weights source target : List ℕ) (r : Result (Unit {0}) Refusal) (target' : List ℕ) : Type 0 where
   pub says : reorder_answer r ≡ reorder_reply (reorder_file back c weights source target)
   pub leaves : target' ≡ reorder_target (reorder_file back c weights source target)
 
 -- dealing, and its inverse
-abbrev pub InterleavePromise : Card → List ℕ → List ℕ → List ℕ → ReorderAnswer → List ℕ → Type 0
+abbrev pub InterleavePromise : Card → List ℕ → List ℕ → List ℕ → Result (Unit {0}) Refusal → List ℕ → Type 0
 InterleavePromise = ReorderPromise false
 
-abbrev pub DeinterleavePromise : Card → List ℕ → List ℕ → List ℕ → ReorderAnswer → List ℕ → Type 0
+abbrev pub DeinterleavePromise : Card → List ℕ → List ℕ → List ℕ → Result (Unit {0}) Refusal → List ℕ → Type 0
 DeinterleavePromise = ReorderPromise true

@@ -3,15 +3,9 @@ ghost use Rattle.interleave.specs.InterleaveCalls.{file_reordered, ReorderPromis
 
 use crate::moves;
 use droplet::card;
-use droplet::card::{Card, PlanAnswer};
+use droplet::card::Card;
+use droplet::refusal::Refusal;
 use field::bytes::copy;
-
-// What the two calls answer.
-#[derive(Clone, Copy)]
-pub enum ReorderAnswer {
-    Done,
-    Refused(u8),
-}
 
 // The first F bytes of `source`, reordered where the card asks for it, into `target`.
 fn move_file(back: bool, card: Card, source: &[u8], target: &mut [u8])
@@ -32,21 +26,16 @@ fn reorder_file(
     weights: &[u8],
     source: &[u8],
     target: &mut [u8],
-) -> ReorderAnswer
+) -> Result<(), Refusal>
     ensures { ReorderPromise back card weights.now source.now target.old result target.new }
 {
-    if let PlanAnswer::Refused(n) = card::check_plan(card, weights) {
-        return ReorderAnswer::Refused(n);
-    }
+    card::check_plan(card, weights)?;
     let n = card.f as usize;
-    if source.len() < n {
-        return ReorderAnswer::Refused(28);
-    }
-    if target.len() < n {
-        return ReorderAnswer::Refused(28);
+    if source.len() < n || target.len() < n {
+        return Err(Refusal::FileBuffer);
     }
     move_file(back, card, source, target);
-    ReorderAnswer::Done
+    Ok(())
 }
 
 // Dealing: what the writer is handed, from the customer's file.
@@ -55,7 +44,7 @@ pub fn interleave_file(
     weights: &[u8],
     source: &[u8],
     target: &mut [u8],
-) -> ReorderAnswer
+) -> Result<(), Refusal>
     ensures { InterleavePromise card weights.now source.now target.old result target.new }
 {
     reorder_file(false, card, weights, source, target)
@@ -67,7 +56,7 @@ pub fn deinterleave_file(
     weights: &[u8],
     source: &[u8],
     target: &mut [u8],
-) -> ReorderAnswer
+) -> Result<(), Refusal>
     ensures { DeinterleavePromise card weights.now source.now target.old result target.new }
 {
     reorder_file(true, card, weights, source, target)

@@ -1,11 +1,12 @@
 -- The lines of an input are store calls, one after the other, so that the reads behind the records are those listed as accepted or repeated,
 -- and the count of records fits the store. Assumes nothing.
-use Rattle.std.proofs.Common.{◌≡◌, ℕ, suc, ◌+◌, cond, List, [], ◌∷◌, sym, refl, ap, ◌∙◌, subst, inl, inr, zero-add, arith, leb-true}
+use Rattle.std.proofs.Common.{◌≡◌, ℕ, suc, ◌+◌, cond, List, [], ◌∷◌, Result, Ok, Err, sym, refl, ap, ◌∙◌, subst, inl, inr, zero-add, arith, leb-true}
 use mathlib.Core.List.{foldl}
 use Rattle.field.proofs.Tests.{either}
 use Rattle.droplet.specs.declared.card.Card.{Card}
 use Rattle.droplet.specs.Questions.{card_refusal}
 use Rattle.droplet.proofs.LegalCard.{legal}
+use Rattle.droplet.specs.declared.refusal.Refusal.{Refusal}
 use Rattle.decoder.specs.declared.store.StoreAnswer.{StoreAnswer}
 use Rattle.decoder.specs.declared.store.StoreAnswer.TheVariants as reply
 use Rattle.decoder.specs.Store.{Kept, kept, store_answer, store_read, StorePromise}
@@ -20,17 +21,17 @@ use Rattle.listing.proofs.LineInHand.{kept_whole}
 -- ---- one line
 
 -- what a tally is after a call with this answer and buffer: one more is accepted or repeated unless it is refused
-record OneMore (s : Listed) (a : StoreAnswer) (buffer : List ℕ) (s' : Listed) : Type 0 where
+record OneMore (s : Listed) (a : Result StoreAnswer Refusal) (buffer : List ℕ) (s' : Listed) : Type 0 where
   store : s'.store ≡ buffer
   count : s'.count ≡ next_count s.count a
   sum : s'.accepted + s'.repeated ≡ s.accepted + s.repeated + cond (answered (store_answer a)) 1 0
 
-answer-more : (s : Listed) (a : StoreAnswer) (buffer : List ℕ) → OneMore s a buffer (after_answer s (kept (store_answer a) buffer))
+answer-more : (s : Listed) (a : Result StoreAnswer Refusal) (buffer : List ℕ) → OneMore s a buffer (after_answer s (kept (store_answer a) buffer))
 unfolding after_answer
-answer-more s (reply.Accepted n) buffer = record { store = refl; count = refl; sum = omega arith }
-answer-more s (reply.Repeat n) buffer = record { store = refl; count = refl; sum = omega arith }
-answer-more s (reply.Replaced n) buffer = record { store = refl; count = refl; sum = omega arith }
-answer-more s (reply.Refused q) buffer = record { store = refl; count = refl; sum = omega arith }
+answer-more s (Ok (reply.Accepted n)) buffer = record { store = refl; count = refl; sum = omega arith }
+answer-more s (Ok (reply.Repeat n)) buffer = record { store = refl; count = refl; sum = omega arith }
+answer-more s (Ok (reply.Replaced n)) buffer = record { store = refl; count = refl; sum = omega arith }
+answer-more s (Err q) buffer = record { store = refl; count = refl; sum = omega arith }
 
 module _ (c : Card) (weights : List ℕ) where
   line-more : (s : Listed) (k : Call) → StorePromise c weights s.store s.count k.read k.answer k.buffer

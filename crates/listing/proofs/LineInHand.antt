@@ -1,21 +1,34 @@
 -- The line's buffer and the tally hold the progress of the input: over a newline, over any other byte, and over calls one after
 -- the other. Assumes nothing.
-use Rattle.std.proofs.Common.{◌≡◌, ℕ, ◌+◌, ◌<◌, ◌≤◌, List, [], ◌∷◌, ◌++◌, length, get_or, take, set, sym, refl, ap, ◌∙◌, add-one, arith, length-append, length-set, take_all, take-suc, take-suc-set}
+use Rattle.std.proofs.Common.{◌≡◌, ℕ, ◌+◌, ◌<◌, ◌≤◌, List, [], ◌∷◌, ◌++◌, Option, unwrap_or, Result, length, get_or, take, set, sym, refl, ap, ◌∙◌, add-one, arith, length-append, length-set, take_all, take-suc, take-suc-set}
 use mathlib.Core.List.{foldl-append}
 use lib.Seq.{take-nil, take-append-le}
+use Rattle.std.specs.declared.io.Error.{Error}
 use Rattle.droplet.specs.declared.card.Card.{Card}
+use Rattle.droplet.specs.declared.refusal.Refusal.{Refusal}
 use Rattle.decoder.specs.declared.store.StoreAnswer.{StoreAnswer}
 use Rattle.decoder.specs.Store.{Kept, kept, accepted, replaced, repeat, refusal, store_answer, kept_answer, kept_buffer, store_read, StorePromise}
 use Rattle.listing.specs.declared.tally.Tally.{Tally}
-use Rattle.listing.specs.declared.input.Turn.{Turn}
 use Rattle.listing.specs.Listing.{Listed, after_answer, after_line}
 use Rattle.listing.specs.Loops.{Progress, start, after_newline, after_byte, after_bytes, InHand, Stands, Holds, Goes, Counted, Closes, brought, Read, Came, Lists}
 use Rattle.listing.proofs.LongLines.{long-line}
 use Rattle.listing.proofs.InputLines.{input-listed}
 
+-- ---- before the first byte
+
+pub begins : (t : Tally) → (t.reads ≡ 0) × ((t.accepted ≡ 0) × ((t.repeated ≡ 0) × ((t.refused ≡ 0) × ((t.count ≡ 0) × (t.held ≡ 0)))))
+    → (line store : List ℕ) → 289 ≤ length line → Holds (start store) t line store
+begins t e line store wide = record {
+  lines = record {
+    numbers = record { reads = e.0; accepted = e.1.0; repeated = e.1.1.0; refused = e.1.1.1.0; count = e.1.1.1.1.0 };
+    records = refl;
+  };
+  hand = record { wide = wide; size = omega (arith, e.1.1.1.1.1, wide); part = rw (e.1.1.1.1.1, take-nil) };
+}
+
 -- ---- a newline
 
-pub kept_whole : (k : Kept) (a : StoreAnswer) (store : List ℕ) → store_answer a ≡ kept_answer k → store ≡ kept_buffer k → kept (store_answer a) store ≡ k
+pub kept_whole : (k : Kept) (a : Result StoreAnswer Refusal) (store : List ℕ) → store_answer a ≡ kept_answer k → store ≡ kept_buffer k → kept (store_answer a) store ≡ k
 kept_whole (kept b s) a store says leaves = rw (says, leaves)
 
 after_store : (s : Listed) (k : Kept) → (after_answer s k).store ≡ kept_buffer k
@@ -25,7 +38,7 @@ after_store s (kept (replaced n) b) = refl
 after_store s (kept (repeat n) b) = refl
 after_store s (kept (refusal q) b) = refl
 
-module _ (c : Card) (weights line : List ℕ) (t t' : Tally) (store store' : List ℕ) (a : StoreAnswer) where
+module _ (c : Card) (weights line : List ℕ) (t t' : Tally) (store store' : List ℕ) (a : Result StoreAnswer Refusal) where
   module _ (promise : StorePromise c weights store t.count (take t.held line) a store') (p : Progress) (h : Holds p t line store) where
     -- the call answers as one that is offered the whole line
     offered : store_read c weights store t.count (take t.held line) ≡ store_read c weights p.listed.store p.listed.count p.line
@@ -100,11 +113,12 @@ module _ (c : Card) (weights : List ℕ) (t : Tally) (line store : List ℕ) (t�
 -- ---- reads
 
 module _ (c : Card) (weights : List ℕ) (t : Tally) (line store : List ℕ) where
-  pub came-read : (t₁ : Tally) (line₁ store₁ chunk : List ℕ) (turn : Turn) (line₂ store₂ : List ℕ)
-      → Came c weights t line store t₁ line₁ store₁ → Read c weights chunk t₁ line₁ store₁ turn line₂ store₂ → Came c weights t line store turn.tally line₂ store₂
-  came-read t₁ line₁ store₁ chunk turn line₂ store₂ before read = record {
-    bytes = before.bytes ++ brought turn.got chunk;
-    goes = goes_on c weights t line store t₁ line₁ store₁ turn.tally line₂ store₂ before.bytes (brought turn.got chunk) before.goes read.goes;
+  pub came-read : (t₁ : Tally) (line₁ store₁ chunk : List ℕ) (got : Result ℕ Error) (next : Option Tally) (line₂ store₂ : List ℕ)
+      → Came c weights t line store t₁ line₁ store₁ → Read c weights got chunk t₁ line₁ store₁ next line₂ store₂
+      → Came c weights t line store (unwrap_or next t₁) line₂ store₂
+  came-read t₁ line₁ store₁ chunk got next line₂ store₂ before read = record {
+    bytes = before.bytes ++ brought got chunk;
+    goes = goes_on c weights t line store t₁ line₁ store₁ (unwrap_or next t₁) line₂ store₂ before.bytes (brought got chunk) before.goes read.goes;
   }
 
   pub came-whole : (t₁ : Tally) (line₁ store₁ : List ℕ) (t₂ : Tally) (store₂ : List ℕ) → Holds (start store) t line store

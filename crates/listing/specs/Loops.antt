@@ -1,15 +1,15 @@
 -- What the contracts of the program's own functions cite: the input by its bytes, and how the code holds what they came to. No
 -- sentence of document 01 stands here. Assumes nothing.
-use Rattle.std.specs.Prelude.{◌≡◌, ℕ, ◌%◌, ◌^◌, ◌≤◌, min, Bool, IsTrue, ◌↔◌, cond, List, [], ◌∷◌, ◌++◌, length, take, ◌==◌, nat_lt, Result, Ok, Err, IfOk}
+use Rattle.std.specs.Prelude.{◌≡◌, ℕ, ◌%◌, ◌^◌, ◌≤◌, min, Bool, IsTrue, ◌↔◌, cond, List, [], ◌∷◌, ◌++◌, length, take, ◌==◌, nat_lt, Option, Some, None, is_some, unwrap_or, Result, Ok, Err}
 use mathlib.Core.List.{foldl}
 use Rattle.std.specs.IoError.{error_kind}
 use Rattle.std.specs.declared.io.Error.{Error}
 use Rattle.std.specs.declared.io.ErrorKind.TheVariants.{Interrupted}
 use Rattle.droplet.specs.declared.card.Card.{Card}
+use Rattle.droplet.specs.declared.refusal.Refusal.{Refusal}
 use Rattle.decoder.specs.declared.store.StoreAnswer.{StoreAnswer}
 use Rattle.decoder.specs.Store.{kept, store_answer}
 use Rattle.listing.specs.declared.tally.Tally.{Tally}
-use Rattle.listing.specs.declared.input.Turn.{Turn}
 use Rattle.listing.specs.Listing.{Listed, none_listed, after_answer, after_line, last_line, listing}
 
 -- what the lines so far came to, and the line in hand, whole
@@ -59,17 +59,13 @@ pub record Holds (p : Progress) (t : Tally) (line store : List ℕ) : Type 0 whe
   pub lines : Stands p.listed t store
   pub hand : InHand p.line line t.held
 
--- before the first byte
-abbrev pub Begins : Tally → Type 0
-Begins t = (line store : List ℕ) → 289 ≤ length line → Holds (start store) t line store
-
 -- a call of the code goes on as `next` says, whatever progress it was handed
 pub record Goes (next : Progress → Progress) (t : Tally) (line store : List ℕ) (t' : Tally) (line' store' : List ℕ) : Type 0 where
   pub within : t'.held ≤ length line'
   pub holds : (p : Progress) → Holds p t line store → Holds (next p) t' line' store'
 
 -- an answer is counted, and the next line is empty as yet
-pub record Counted (a : StoreAnswer) (t t' : Tally) : Type 0 where
+pub record Counted (a : Result StoreAnswer Refusal) (t t' : Tally) : Type 0 where
   pub numbers : (s : Listed) (store : List ℕ) → Numbers s t → Numbers (after_answer s (kept (store_answer a) store)) t'
   pub empty : t'.held ≡ 0
 
@@ -89,12 +85,12 @@ abbrev pub MayFollow : Result ℕ Error → Bool → Type 0
 MayFollow (Ok n) more = more ≡ nat_lt 0 n
 MayFollow (Err e) more = IsTrue more ↔ (error_kind e ≡ Interrupted)
 
--- one read: its answer is one that `read` may give, and the bytes that it brought were gone through, all of them, once, and no
--- others. No contract can say which bytes they are, or that the answer and the chunk are as `read` left them
-pub record Read (c : Card) (weights chunk : List ℕ) (t : Tally) (line store : List ℕ) (turn : Turn) (line' store' : List ℕ) : Type 0 where
-  pub answer : IfOk turn.got (λ n. n ≤ length chunk)
-  pub follows : MayFollow turn.got turn.more
-  pub goes : Goes (λ p. after_bytes c weights p (brought turn.got chunk)) t line store turn.tally line' store'
+-- one read, by its answer and the chunk that it left: whether there may be more, and the bytes that it brought were gone through, all of
+-- them, once, and no others; where nothing follows it brought none, and the tally is the one from before
+pub record Read (c : Card) (weights : List ℕ) (got : Result ℕ Error) (chunk : List ℕ) (t : Tally) (line store : List ℕ) (next : Option Tally)
+    (line' store' : List ℕ) : Type 0 where
+  pub follows : MayFollow got (is_some next)
+  pub goes : Goes (λ p. after_bytes c weights p (brought got chunk)) t line store (unwrap_or next t) line' store'
 
 -- reads one after the other: some bytes came, the pieces in their order, and were gone through
 pub record Came (c : Card) (weights : List ℕ) (t : Tally) (line store : List ℕ) (t' : Tally) (line' store' : List ℕ) : Type 0 where

@@ -10,12 +10,10 @@ pub fn total_behind(store: &[u8], l: usize, count: usize) -> u64
     requires { Within l count store.now }
     ensures { result ≡ total_count (records l count store.now) % 2 ^ 64 }
 {
-    let mut total = 0;
-    let mut i = 0;
-    while i < count {
-        let one = count_in(record_at(store, l, i), l) as u64;
-        total = std::num::wrapping_add_u64(total, one);
-        i += 1;
+    let mut total: u64 = 0;
+    for i in 0..count {
+        let behind = count_in(record_at(store, l, i), l);
+        total = total.wrapping_add(u64::from(behind));
     }
     total
 }

@@ -1,58 +1,39 @@
-ghost use Rattle.std.specs.Prelude.{◌≤◌, length};
-ghost use Rattle.listing.specs.Loops.{MayFollow, Read, Came, Lists};
+ghost use Rattle.std.specs.Prelude.{◌≤◌, length, IfOk};
+ghost use Rattle.listing.specs.Loops.{Read, Came, Lists};
 
-use crate::tally::{Tally, add_bytes, end_input, nothing_read};
+use crate::tally::{Tally, add_bytes, end_input};
 use droplet::card::Card;
 use std::io;
 
-// What a read of standard input answered, whether there may be more to read, and the tally after the bytes that came.
-#[derive(Drop)]
-pub struct Turn {
-    pub got: io::Result<usize>,
-    pub more: bool,
-    pub tally: Tally,
-}
-
-// Whether there may be more to read, after a read with this answer. One that a signal stopped before its first byte is tried
-// again; any other failure ends the input, and is named on standard error.
-fn is_more(rt: &impl Eprint, got: &io::Result<usize>) -> bool
-    ensures { MayFollow got.now result }
+// Goes through the bytes that a read of standard input brought into `chunk`: the tally after them, or that nothing follows. A read that a
+// signal stopped before its first byte is tried again; any other failure ends the input, and is named on standard error.
+fn take_read(
+    rt: &impl Eprint,
+    got: io::Result<usize>,
+    card: Card,
+    weights: &[u8],
+    chunk: &[u8],
+    line: &mut [u8],
+    store: &mut [u8],
+    t: Tally,
+) -> Option<Tally>
+    requires within { t.held ≤ length line.old }
+    requires fits { IfOk got (λ n. n ≤ length chunk.now) }
+    ensures { Read card weights.now got chunk.now t line.old store.old result line.new store.new }
 {
     match got {
-        Ok(n) => 0 < *n,
+        Ok(0) => None,
+        Ok(n) => Some(add_bytes(card, weights, &chunk[..n], line, store, t)),
+        Err(e) if e.kind() == io::ErrorKind::Interrupted => Some(t),
         Err(e) => {
-            if e.kind() == io::ErrorKind::Interrupted {
-                return true;
-            }
             let _ = eprintln!(rt; "standard input: {e}");
-            false
+            None
         }
     }
 }
 
-// Reads standard input once, into `chunk`, and goes through the bytes that came. A read that failed brought none.
-fn read_some(
-    rt: &impl Eprint,
-    input: &mut impl io::Read,
-    card: Card,
-    weights: &[u8],
-    chunk: &mut [u8],
-    line: &mut [u8],
-    store: &mut [u8],
-    t: Tally,
-) -> Turn
-    requires { t.held ≤ length line.old }
-    ensures { Read card weights.now chunk.new t line.old store.old result line.new store.new }
-{
-    let got = input.read(chunk);
-    let more = is_more(rt, &got);
-    let n = got.unwrap_or(0);
-    let tally = add_bytes(card, weights, &chunk[..n], line, store, t);
-    Turn { got, more, tally }
-}
-
-// Reads to the end of standard input. A proved loop has to end, and nothing says that an input does: the turns are counted down,
-// from a number that no run uses up.
+// Reads to the end of standard input. A proved loop has to end, and nothing says that an input does: its turns are as many as no run
+// uses up.
 fn read_all(
     rt: &impl Eprint,
     input: &mut impl io::Read,
@@ -61,23 +42,19 @@ fn read_all(
     chunk: &mut [u8],
     line: &mut [u8],
     store: &mut [u8],
-    t: Tally,
+    mut t: Tally,
 ) -> Tally
     requires { t.held ≤ length line.old }
     ensures { Came card weights.now t line.old store.old result line.new store.new }
 {
-    let mut u = t;
-    let mut turns = u64::MAX;
-    while 0 < turns {
-        let turn = read_some(rt, input, card, weights, chunk, line, store, u);
-        u = turn.tally;
-        if turn.more {
-            turns -= 1;
-        } else {
-            return u;
-        }
+    for _ in 0..u64::MAX {
+        let got = input.read(chunk);
+        let Some(next) = take_read(rt, got, card, weights, chunk, line, store, t) else {
+            return t;
+        };
+        t = next;
     }
-    u
+    t
 }
 
 // Offers the lines of standard input to an empty store. The buffer `line` is longer than any strand.
@@ -93,6 +70,15 @@ pub fn list_reads(
     requires { 289 ≤ length line.old }
     ensures { Lists card weights.now store.old result store.new }
 {
-    let read = read_all(rt, input, card, weights, chunk, line, store, nothing_read());
-    end_input(card, weights, line, store, read)
+    let t = read_all(
+        rt,
+        input,
+        card,
+        weights,
+        chunk,
+        line,
+        store,
+        Tally::default(),
+    );
+    end_input(card, weights, line, store, t)
 }

@@ -1,13 +1,15 @@
-ghost use Rattle.std.specs.Prelude.{◌≡◌, ◌+◌, ◌%◌, ◌^◌, ◌≤◌, length};
-ghost use Rattle.listing.specs.Loops.{after_newline, after_byte, after_bytes, Begins, Counted, Goes, Closes};
+ghost use Rattle.std.specs.Prelude.{◌≡◌, ◌≤◌, length};
+ghost use Rattle.listing.specs.Loops.{after_newline, after_byte, after_bytes, Counted, Goes, Closes};
 
 use decoder::store;
 use decoder::store::StoreAnswer;
 use droplet::card::Card;
+use droplet::refusal::Refusal;
+use std::fmt;
 
 // What the lines so far came to, the count of records that the next call is handed, and how many bytes of the line in hand are in
 // the line's buffer.
-#[derive(Clone, Copy)]
+#[derive(Clone, Copy, Debug, Default, PartialEq, Eq)]
 pub struct Tally {
     pub reads: u64,
     pub accepted: u64,
@@ -17,55 +19,41 @@ pub struct Tally {
     pub held: usize,
 }
 
-// Before the first byte of the input.
-pub fn nothing_read() -> Tally
-    ensures { Begins result }
-{
-    Tally {
-        reads: 0,
-        accepted: 0,
-        repeated: 0,
-        refused: 0,
-        count: 0,
-        held: 0,
+impl fmt::Display for Tally {
+    fn fmt<W: fmt::Write>(&self, f: &mut fmt::Formatter<W>) -> fmt::Result {
+        write!(
+            f,
+            "reads {} accepted {} repeated {} refused {}",
+            self.reads, self.accepted, self.repeated, self.refused
+        )
     }
 }
 
-fn one_more(n: u64) -> u64
-    ensures { result ≡ (n + 1) % 2 ^ 64 }
-{
-    std::num::wrapping_add_u64(n, 1)
-}
-
 // What an answer adds. A refusal keeps the count of records.
-fn add_answer(t: Tally, a: StoreAnswer) -> Tally
-    ensures { Counted a t result }
+fn add_answer(t: Tally, answer: Result<StoreAnswer, Refusal>) -> Tally
+    ensures { Counted answer t result }
 {
-    let reads = one_more(t.reads);
-    match a {
+    let t = Tally {
+        reads: t.reads.wrapping_add(1),
+        held: 0,
+        ..t
+    };
+    let Ok(reply) = answer else {
+        return Tally {
+            refused: t.refused.wrapping_add(1),
+            ..t
+        };
+    };
+    match reply {
         StoreAnswer::Accepted(count) => Tally {
-            reads,
-            accepted: one_more(t.accepted),
-            repeated: t.repeated,
-            refused: t.refused,
+            accepted: t.accepted.wrapping_add(1),
             count,
-            held: 0,
+            ..t
         },
         StoreAnswer::Repeat(count) | StoreAnswer::Replaced(count) => Tally {
-            reads,
-            accepted: t.accepted,
-            repeated: one_more(t.repeated),
-            refused: t.refused,
+            repeated: t.repeated.wrapping_add(1),
             count,
-            held: 0,
-        },
-        StoreAnswer::Refused(_) => Tally {
-            reads,
-            accepted: t.accepted,
-            repeated: t.repeated,
-            refused: one_more(t.refused),
-            count: t.count,
-            held: 0,
+            ..t
         },
     }
 }
@@ -75,8 +63,7 @@ fn end_line(card: Card, weights: &[u8], line: &[u8], store: &mut [u8], t: Tally)
     requires { t.held ≤ length line.now }
     ensures { Goes (after_newline card weights.now) t line.now store.old result line.now store.new }
 {
-    let n = t.held;
-    let answer = store::store_read(card, weights, store, t.count, &line[..n]);
+    let answer = store::store_read(card, weights, store, t.count, &line[..t.held]);
     add_answer(t, answer)
 }
 
@@ -91,9 +78,7 @@ fn add_byte(card: Card, weights: &[u8], line: &mut [u8], store: &mut [u8], t: Ta
     let n = t.held;
     if n < line.len() {
         line[n] = b;
-        let mut longer = t;
-        longer.held = n + 1;
-        return longer;
+        return Tally { held: n + 1, ..t };
     }
     t
 }
@@ -105,18 +90,15 @@ pub fn add_bytes(
     bytes: &[u8],
     line: &mut [u8],
     store: &mut [u8],
-    t: Tally,
+    mut t: Tally,
 ) -> Tally
     requires { t.held ≤ length line.old }
     ensures { Goes (λ p. after_bytes card weights.now p bytes.now) t line.old store.old result line.new store.new }
 {
-    let mut u = t;
-    let mut i = 0;
-    while i < bytes.len() {
-        u = add_byte(card, weights, line, store, u, bytes[i]);
-        i += 1;
+    for &b in bytes {
+        t = add_byte(card, weights, line, store, t, b);
     }
-    u
+    t
 }
 
 // The end of the input: a line in hand is the last one. After a newline there is none.

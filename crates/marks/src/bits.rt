@@ -1,13 +1,11 @@
 ghost use Rattle.std.specs.Prelude.{◌≡◌, [], ◌*◌, ◌≤◌, ◌<◌, length};
 ghost use Rattle.marks.specs.Marks.{mark_bytes, mark_at, with_mark, packed_into};
 
-use field::bytes::clear;
-
 // The bytes that the marks of `k` segments take.
 pub fn mark_bytes(k: u32) -> usize
     ensures { result ≡ mark_bytes k }
 {
-    ((k as usize) + 7) / 8
+    (k as usize).div_ceil(8)
 }
 
 // The mark of segment `s`: 1 if it is present, 0 if it is missing.
@@ -26,7 +24,7 @@ pub fn set_mark(marks: &mut [u8], s: u32)
 {
     let b = (s / 8) as usize;
     let c = s % 8;
-    marks[b] = marks[b] | (1u8 << c);
+    marks[b] |= 1 << c;
 }
 
 // Marks each of `k` segments as missing.
@@ -35,5 +33,5 @@ pub fn clear_marks(marks: &mut [u8], k: u32)
     ensures { marks.new ≡ packed_into marks.old k [] }
 {
     let n = mark_bytes(k);
-    clear(&mut marks[..n]);
+    marks[..n].fill(0);
 }

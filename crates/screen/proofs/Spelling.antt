@@ -7,7 +7,7 @@ use native.Mathlib.Nat.{mod-lt, zero-lt-suc}
 use native.Mathlib.Omega.{arith}
 use borrow.Author.Tests.{eqb-true}
 use lib.Dec.{eqb, lit<}
-use lib.ListN.{length, get_or}
+use lib.ListN.{length}
 use Rattle.field.specs.Bytes.{AllBytes}
 use Rattle.screen.specs.Letters.{Bits, Other, letter_of, letter_bits, is_bits, bits_or0, all_letters, byte_bases, word_bases, byte_letters, word_letters, letters_byte, letters_word}
 
@@ -15,14 +15,6 @@ use Rattle.screen.specs.Letters.{Bits, Other, letter_of, letter_bits, is_bits, b
 
 pair_lt : (n : ℕ) → n % 4 < 4
 pair_lt n = mod-lt n (zero-lt-suc 3)
-
-pub base-at : (b i : ℕ) → get_or (byte_bases b) i 0 < 4
-unfolding byte_bases
-base-at b zero = pair_lt (b / 64)
-base-at b (suc zero) = pair_lt (b / 16)
-base-at b (suc (suc zero)) = pair_lt (b / 4)
-base-at b (suc (suc (suc zero))) = pair_lt b
-base-at b (suc (suc (suc (suc i)))) = lit< tt
 
 letter-cases : (p q r s : Bool) → bits_or0 (cond p (Bits 0) (cond q (Bits 1) (cond r (Bits 2) (cond s (Bits 3) Other)))) < 4
 letter-cases true q r s = lit< tt

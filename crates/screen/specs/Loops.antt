@@ -1,10 +1,8 @@
 -- What the contracts of private functions cite: a letter as a number, and the bases of a word as one number, with a flag for each that
 -- matches. No sentence of document 01 stands here. Assumes nothing.
-use Rattle.std.specs.Prelude.{◌≡◌, cond, ℕ, zero, suc, max, ◌≤◌, ◌<◌, ◌+◌, ◌*◌, ◌/◌, ◌%◌, ◌^◌, eqb, ltb, length}
+use Rattle.std.specs.Prelude.{◌≡◌, cond, Option, Some, None, ℕ, zero, suc, max, ◌≤◌, ◌<◌, ◌+◌, ◌*◌, ◌/◌, ◌%◌, ◌^◌, eqb, ltb, length}
 use mathlib.Core.List.{List, [], ◌∷◌, foldl}
 use Rattle.std.specs.Int.Bits.{bit_and, bit_xor}
-use Rattle.screen.specs.declared.letters.Spelled.{Spelled}
-use Rattle.screen.specs.declared.letters.Spelled.TheVariants.{Byte, Nothing}
 use Rattle.screen.specs.Letters.{Letter, Bits, Other, letter_bits, all_letters, letters_byte}
 use Rattle.screen.specs.Screen.{gc_count}
 
@@ -18,9 +16,9 @@ pub record Reads (x n : ℕ) : Type 0 where
   pub two_bits : n % 32 < 4
   pub small : n < 64
 
--- the byte of four letters, or nothing
-unfoldable pub spelled : ℕ → ℕ → ℕ → ℕ → Spelled
-spelled a b c d = cond (all_letters (a ∷ b ∷ c ∷ d ∷ [])) (Byte (letters_byte a b c d)) Nothing
+-- the byte of four letters, or none
+unfoldable pub spelled : ℕ → ℕ → ℕ → ℕ → Option ℕ
+spelled a b c d = cond (all_letters (a ∷ b ∷ c ∷ d ∷ [])) (Some (letters_byte a b c d)) None
 
 -- ---- the bases of a word as one number, two bits to a base
 

@@ -2,39 +2,32 @@ ghost use Rattle.std.specs.Prelude.{◌≡◌, true, ◌+◌, ◌*◌, ◌<◌, 
 ghost use Rattle.screen.specs.Letters.{letter_of, all_letters, byte_bases, byte_letters, word_letters, letters_word};
 ghost use Rattle.screen.specs.Loops.{Reads, spelled};
 
-// The byte that four letters spell, or that one of them is no letter.
-#[derive(Clone, Copy)]
-pub enum Spelled {
-    Byte(u8),
-    Nothing,
-}
-
 // 00 is A, 01 C, 10 G, 11 T, and every other number is no letter: 32 or 33. B, D, F and N have a number of their own so that eight of
 // the twenty numbers from A to T have an arm, which is enough for the compiler to make a table of them. With one number for all that
-// are none, or with an enum, it makes a jump for each letter, which no processor can foresee.
+// are none, or with an `Option`, it makes a jump for each letter, which no processor can foresee: 152 letters then take 1,230 ns to
+// read, and so 174.
 fn letter_bits(x: u8) -> u8
     ensures { Reads x result }
 {
     match x {
-        65 => 0,
-        67 => 1,
-        71 => 2,
-        84 => 3,
-        66 | 68 | 70 | 78 => 32,
-        0..=64 | 69 | 72..=77 | 79..=83 | 85..=255 => 33,
+        b'A' => 0,
+        b'C' => 1,
+        b'G' => 2,
+        b'T' => 3,
+        b'B' | b'D' | b'F' | b'N' => 32,
+        _ => 33,
     }
 }
 
 // The letter of a base.
 pub fn letter_of(base: u8) -> u8
-    requires { base < 4 }
     ensures { result ≡ letter_of base }
 {
     match base {
-        0 => 65,
-        1 => 67,
-        2 => 71,
-        _ => 84,
+        0 => b'A',
+        1 => b'C',
+        2 => b'G',
+        _ => b'T',
     }
 }
 
@@ -48,13 +41,7 @@ fn byte_bases(b: u8) -> [u8; 4]
 fn byte_letters(b: u8) -> [u8; 4]
     ensures { result ≡ byte_letters b }
 {
-    let bases = byte_bases(b);
-    [
-        letter_of(bases[0]),
-        letter_of(bases[1]),
-        letter_of(bases[2]),
-        letter_of(bases[3]),
-    ]
+    byte_bases(b).map(letter_of)
 }
 
 // The letters of a word, four to a byte.
@@ -62,15 +49,8 @@ pub fn write_letters(word: &[u8], out: &mut [u8])
     requires { length out.old ≡ 4 * length word.now }
     ensures { out.new ≡ word_letters word.now }
 {
-    let mut i = 0;
-    while i < word.len() {
-        let four = byte_letters(word[i]);
-        let at = 4 * i;
-        out[at] = four[0];
-        out[at + 1] = four[1];
-        out[at + 2] = four[2];
-        out[at + 3] = four[3];
-        i += 1;
+    for (i, &b) in word.iter().enumerate() {
+        out[4 * i..4 * i + 4].copy_from_slice(&byte_letters(b));
     }
 }
 
@@ -83,7 +63,7 @@ fn bases_byte(a: u8, b: u8, c: u8, d: u8) -> u8
 }
 
 // One test for all four: letters add up to 12 at most, and one that is none to 32 at least.
-fn read_byte(a: u8, b: u8, c: u8, d: u8) -> Spelled
+fn read_byte(a: u8, b: u8, c: u8, d: u8) -> Option<u8>
     ensures { result ≡ spelled a b c d }
 {
     let w = letter_bits(a);
@@ -91,9 +71,9 @@ fn read_byte(a: u8, b: u8, c: u8, d: u8) -> Spelled
     let y = letter_bits(c);
     let z = letter_bits(d);
     if w + x + y + z < 32 {
-        return Spelled::Byte(bases_byte(w, x, y, z));
+        return Some(bases_byte(w, x, y, z));
     }
-    Spelled::Nothing
+    None
 }
 
 // Whether all of a read are letters, and the word that they spell. It stops at the first that is none.
@@ -102,14 +82,12 @@ pub fn read_letters(read: &[u8], word: &mut [u8]) -> bool
     ensures value { result ≡ all_letters read.now }
     ensures word_after { result ≡ true → word.new ≡ letters_word read.now }
 {
-    let mut i = 0;
-    while i < word.len() {
+    for (i, byte) in word.iter_mut().enumerate() {
         let at = 4 * i;
-        let Spelled::Byte(b) = read_byte(read[at], read[at + 1], read[at + 2], read[at + 3]) else {
+        let Some(b) = read_byte(read[at], read[at + 1], read[at + 2], read[at + 3]) else {
             return false;
         };
-        word[i] = b;
-        i += 1;
+        *byte = b;
     }
     true
 }

@@ -5,7 +5,7 @@ use crate::screen::Measure;
 use droplet::card::{Bases, Card};
 
 // What the card's limits make of a strand. One with both faults is dropped for its run.
-#[derive(Clone, Copy)]
+#[derive(Clone, Copy, Debug, PartialEq, Eq)]
 pub enum Verdict {
     Passes,
     LongRun,
@@ -17,14 +17,14 @@ pub fn compare(card: Card, measure: Measure, n: Bases) -> Verdict
     requires { (measure.gc ≤ 288) × (n.0 ≤ 288) }
     ensures { result ≡ verdict card measure n.0 }
 {
-    if (card.m as usize) < measure.longest {
+    if usize::from(card.m) < measure.longest {
         return Verdict::LongRun;
     }
     let thousandths = 1000 * measure.gc;
-    if thousandths < (card.lo as usize) * n.0 {
+    if thousandths < usize::from(card.lo) * n.0 {
         return Verdict::GcAlone;
     }
-    if (card.hi as usize) * n.0 < thousandths {
+    if usize::from(card.hi) * n.0 < thousandths {
         return Verdict::GcAlone;
     }
     Verdict::Passes

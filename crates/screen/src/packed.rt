@@ -19,7 +19,7 @@ pub struct Front {
 pub fn gc_of(bases: u64, mask: u64) -> u32
     ensures { (k : ℕ) → mask ≡ low_bits k → result ≡ gc_in k bases }
 {
-    u64::count_ones((bases ^ (bases >> 1)) & mask)
+    ((bases ^ (bases >> 1)) & mask).count_ones()
 }
 
 // A flag for each base, set where it matches, from the XOR of each base with the one before it.
@@ -51,11 +51,9 @@ pub fn front_of(word: &[u8], before: u64) -> Front
 {
     let mut number = before;
     let mut mask = 0;
-    let mut j = 0;
-    while j < word.len() {
-        number = number * 256 + word[j] as u64;
+    for &b in word {
+        number = number * 256 + u64::from(b);
         mask = mask * 256 + 0x55;
-        j += 1;
     }
     Front { number, mask }
 }
@@ -65,14 +63,14 @@ fn four_at(word: &[u8], i: usize) -> u32
     requires { i + 4 ≤ length word.now }
     ensures { (n : ℕ) → number_after n (drop i word.now) ≡ number_after (n * 2 ^ 32 + result) (drop (i + 4) word.now) }
 {
-    bytes::join(word[i], word[i + 1], word[i + 2], word[i + 3])
+    bytes::number_at(word, i)
 }
 
 pub fn eight_at(word: &[u8], i: usize) -> u64
     requires { i + 8 ≤ length word.now }
     ensures { (n : ℕ) → number_after n (drop i word.now) ≡ number_after (n * 2 ^ 64 + result) (drop (i + 8) word.now) }
 {
-    (four_at(word, i) as u64) * 4294967296 + four_at(word, i + 4) as u64
+    (u64::from(four_at(word, i)) << 32) + u64::from(four_at(word, i + 4))
 }
 
 // Takes the first match from each row, and answers 0 if there was none.
@@ -82,13 +80,11 @@ pub fn thin(matches: &mut [u64]) -> u64
 {
     let mut any = 0;
     let mut before = 0;
-    let mut i = 0;
-    while i < matches.len() {
-        let m = matches[i];
-        matches[i] = m & moved(before, m);
-        any = any | m;
+    for chunk in matches.iter_mut() {
+        let m = *chunk;
+        *chunk = m & moved(before, m);
+        any |= m;
         before = m;
-        i += 1;
     }
     any
 }
@@ -100,11 +96,8 @@ pub fn longest_run(matches: &mut [u64]) -> usize
     ensures { result ≡ longest_row 320 (chunks_number matches.old) + 1 }
 {
     let mut longest = 1;
-    let mut any = thin(&mut *matches);
-    while any != 0 {
+    while thin(matches) != 0 {
         longest += 1;
-        let more = thin(&mut *matches);
-        any = more;
     }
     longest
 }

@@ -6,7 +6,7 @@ use crate::packed;
 
 // What the screen answers of a strand: its longest run of one base, counted through the sites of the order, and how many of its own
 // bases are C or G. Whether a card allows that, `limits` compares.
-#[derive(Clone, Copy)]
+#[derive(Clone, Copy, Debug, PartialEq, Eq)]
 pub struct Measure {
     pub longest: usize,
     pub gc: usize,
@@ -24,20 +24,19 @@ fn put_matches(matches: &mut [u64], word: &[u8], before: u64, after: u64) -> usi
     ensures { MatchesOf before word.now after result matches.new }
 {
     let rest = word.len() % 8;
+    let eights = word.len() / 8;
     let front = packed::front_of(&word[..rest], before);
     let mut gc = packed::gc_of(front.number, front.mask) as usize;
     let mut last = front.number;
     let mut mask = front.mask * 4 + 1;
-    let mut k = 0;
-    while k < word.len() / 8 {
+    for k in 0..eights {
         let bases = packed::eight_at(word, rest + k * 8);
         matches[k] = packed::matches_of(packed::followed(last, bases) ^ last, mask);
         gc += packed::gc_of(bases, packed::LOW_BITS) as usize;
         last = bases;
         mask = packed::LOW_BITS;
-        k += 1;
     }
-    matches[k] = packed::matches_of(packed::followed(last, after << 62) ^ last, mask);
+    matches[eights] = packed::matches_of(packed::followed(last, after << 62) ^ last, mask);
     gc
 }
 
@@ -47,8 +46,8 @@ fn measure_in(matches: &mut [u64], word: &[u8]) -> Measure
     requires { (0 < length word.now) × (length word.now ≤ 72) × (length matches.old ≡ length word.now / 8 + 1) }
     ensures { result ≡ measure_of word.now }
 {
-    let gc = put_matches(&mut *matches, word, BEFORE, AFTER);
-    let longest = packed::longest_run(&mut *matches);
+    let gc = put_matches(matches, word, BEFORE, AFTER);
+    let longest = packed::longest_run(matches);
     Measure { longest, gc }
 }
 
@@ -57,10 +56,9 @@ pub fn measure_of(word: &[u8]) -> Measure
     requires { length word.now ≤ 72 }
     ensures { result ≡ measure_of word.now }
 {
-    if word.len() == 0 {
+    if word.is_empty() {
         return Measure { longest: 0, gc: 0 };
     }
-    let mut matches = [0u64; 10];
-    let n = word.len() / 8 + 1;
-    measure_in(&mut matches[..n], word)
+    let mut matches = [0; 10];
+    measure_in(&mut matches[..word.len() / 8 + 1], word)
 }

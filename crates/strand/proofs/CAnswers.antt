@@ -5,11 +5,13 @@ use mathlib.Core.List.{List}
 use Prim.Native.Nat.{ℕ, ◌≤◌}
 use native.Mathlib.Omega.{arith}
 use lib.ListN.{length, take}
+use Rattle.std.proofs.Common.{Result, Ok, Err}
 use Rattle.field.proofs.ByteLists.{padded-length}
 use Rattle.droplet.specs.declared.card.Card.{Card}
+use Rattle.droplet.specs.declared.refusal.Refusal.{Refusal}
+use Rattle.droplet.specs.Refusals.{refusal_number}
 use Rattle.droplet.proofs.LegalCard.{legal}
-use Rattle.strand.specs.declared.read_check.ReadOutcome.TheVariants.{Droplet, Refused}
-use Rattle.strand.specs.declared.read_check.ReadAnswer.{ReadAnswer}
+use Rattle.strand.specs.declared.read_check.ReadDroplet.{ReadDroplet}
 use Rattle.strand.specs.ReadCheck.{read_check, Answers}
 use Rattle.strand.specs.ReadCheck.Reading.{refused}
 use Rattle.strand.specs.CForm.{droplet_over, handed_over}
@@ -21,20 +23,20 @@ hand_on : (L n : ℕ) (out : List ℕ) → handed_over L out (refused n) ≡ han
 unfolding handed_over
 hand_on L n out = refl
 
-module _ (c : Card) (weights read : List ℕ) (r : ReadAnswer) (answers : Answers (read_check c weights read) r) where
-  pub refusal-handed : (n : ℕ) (out : List ℕ) → r.outcome ≡ Refused n → handed n out ≡ handed_over c.l out (read_check c weights read)
-  refusal-handed n out e = sym (ap (handed_over c.l out) (refuses c.l _ r answers n e) ∙ hand_on c.l n out)
+module _ (c : Card) (weights read : List ℕ) (r : Result ReadDroplet Refusal) (answers : Answers (read_check c weights read) r) where
+  pub refusal-handed : (q : Refusal) (out : List ℕ) → r ≡ Err q → handed (refusal_number q) out ≡ handed_over c.l out (read_check c weights read)
+  refusal-handed q out e = sym (ap (handed_over c.l out) (refuses c.l _ r answers q e) ∙ hand_on c.l (refusal_number q) out)
 
-  module _ (seed : ℕ) (found : r.outcome ≡ Droplet seed) where
-    told : Accepts c.l (read_check c weights read) seed r.payload
-    told = accepts c.l _ r answers (λ s p k e. ((accepts-exactly c weights read s p k).0 e).strand.size) seed found
+  module _ (d : ReadDroplet) (found : r ≡ Ok d) where
+    told : Accepts c.l (read_check c weights read) d.seed d.payload d.corrected
+    told = accepts c.l _ r answers (λ s p k e. ((accepts-exactly c weights read s p k).0 e).strand.size) d found
 
     pub narrow : c.l ≤ 64
-    narrow = (legal c weights ((accepts-exactly c weights read seed told.payload told.number).0 told.accepted).strand.card).sizes.l_most
+    narrow = (legal c weights ((accepts-exactly c weights read d.seed told.payload d.corrected).0 told.accepted).strand.card).sizes.l_most
 
-    pub array_size : length r.payload ≡ 64
+    pub array_size : length d.payload ≡ 64
     array_size = ap length told.held ∙ padded-length 64 told.payload (omega (arith, told.size, narrow))
 
-    pub droplet-handed : (out : List ℕ) → droplet_over c.l out seed (take c.l r.payload) ≡ handed_over c.l out (read_check c weights read)
+    pub droplet-handed : (out : List ℕ) → droplet_over c.l out d.seed (take c.l d.payload) ≡ handed_over c.l out (read_check c weights read)
     unfolding handed_over
-    droplet-handed out = ap (droplet_over c.l out seed) told.first ∙ sym (ap (handed_over c.l out) told.accepted)
+    droplet-handed out = ap (droplet_over c.l out d.seed) told.first ∙ sym (ap (handed_over c.l out) told.accepted)

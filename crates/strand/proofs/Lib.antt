@@ -14,3 +14,4 @@ pub mod WriterAnswers
 pub mod RoundTrips
 pub mod PrintedRuns
 pub mod ReadAnswers
+pub mod Tests

@@ -1,12 +1,14 @@
 -- Lines: a strand's line has n letters and a newline, a run's text as many lines as it made, each with its seed's letters, and a line
 -- stands in the buffer. Assumes nothing.
 use mathlib.Core.Path.{◌≡◌, sym, ap, ◌∙◌}
-use mathlib.Core.List.{List, [], ◌∷◌, ◌++◌, append_assoc}
-use Prim.Native.Nat.{ℕ, zero, suc, ◌+◌, ◌*◌, ◌<◌, ◌≤◌}
+use mathlib.Core.List.{List, [], ◌∷◌, ◌++◌, append_assoc, append-nil}
+use Prim.Native.Nat.{ℕ, zero, suc, ◌+◌, ◌-◌, ◌*◌, ◌<◌, ◌≤◌}
 use native.Mathlib.Nat.{zero-mul, suc-mul, add_comm}
 use native.Mathlib.Omega.{arith}
-use lib.ListN.{length, get_or, take, drop, length-append}
-use lib.Seq.{take_at, drop_at, drop-drop, length-take-le}
+use lib.ListN.{length, get_or, take, drop, length-append, length-drop}
+use lib.Seq.{take_at, drop_at, drop-drop, length-take-le, take_all}
+use borrow.Rule.Slice.PartMut.{put_mid}
+use Rattle.std.proofs.lemmas.List.{drop_all}
 use Rattle.droplet.specs.declared.card.Card.{Card}
 use Rattle.droplet.specs.PoolCard.{strand_bases}
 use Rattle.screen.specs.Letters.{word_letters}
@@ -14,7 +16,7 @@ use Rattle.screen.proofs.Spelling.{letters-length}
 use Rattle.strand.specs.declared.writer.Stop.{Stop}
 use Rattle.strand.specs.Writer.{seed_word, strand_line, Progress, run_end, writer_run}
 use Rattle.strand.specs.WriterRuns.{strand_lines}
-use Rattle.strand.specs.Loops.{with_text}
+use Rattle.strand.specs.Loops.{with_front}
 use Rattle.strand.proofs.SeedWords.{word-length}
 use Rattle.strand.proofs.Runs.{run-facts}
 
@@ -57,15 +59,30 @@ module _ (c : Card) (ws file : List ℕ) where
       ∙ ap (λ l. drop (i * m) (drop m l)) (append_assoc line lines rest) ∙ ap (drop (i * m)) (drop_at line (lines ++ rest) m (line-length seed)))
       ∙ line_at seeds rest i (omega arith)
 
--- a text in a buffer
+-- a text in a buffer, behind its first places
 module _ (at : ℕ) (text out : List ℕ) (room : at ≤ length out) where
+  abbrev behind : List ℕ
+  behind = take at out ++ with_front text (drop at out)
+
   front : length (take at out ++ text) ≡ at + length text
   front = length-append (take at out) text ∙ ap (λ n. n + length text) (length-take-le at out room)
 
-  pub text-taken : take (at + length text) (with_text at text out) ≡ take at out ++ text
-  unfolding with_text
-  text-taken = rw (← append_assoc) (take_at (take at out ++ text) _ _ front)
+  in_parts : behind ≡ (take at out ++ text) ++ drop (at + length text) out
+  unfolding with_front
+  in_parts = rw (drop-drop (length text) at out) (sym (append_assoc (take at out) text (drop (at + length text) out)))
 
-  pub text-dropped : drop (at + length text) (with_text at text out) ≡ drop (at + length text) out
-  unfolding with_text
-  text-dropped = rw (← append_assoc) (drop_at (take at out ++ text) _ _ front)
+  pub text-taken : take (at + length text) behind ≡ take at out ++ text
+  text-taken = rw in_parts (take_at (take at out ++ text) _ _ front)
+
+  pub text-dropped : drop (at + length text) behind ≡ drop (at + length text) out
+  text-dropped = rw in_parts (drop_at (take at out ++ text) _ _ front)
+
+-- a buffer from a place on, as a part that is lent, and as it comes back
+module _ (at : ℕ) (out : List ℕ) where
+  pub part-lent : take (length out - at) (drop at out) ≡ drop at out
+  part-lent = take_all _ (drop at out) (omega (arith, length-drop at out))
+
+  pub part-back : (part : List ℕ) → put_mid at (length out - at) out part ≡ take at out ++ part
+  part-back part =
+      let none : drop (length out - at) (drop at out) ≡ [] = drop_all _ (drop at out) (omega (arith, length-drop at out)) in
+      rw (none, append-nil {A = ℕ})

@@ -1,47 +1,49 @@
 -- What a caller of the read check, or of its questions 9 to 13 alone, learns of the answer. Assumes nothing.
-use mathlib.Core.Path.{◌≡◌, sym, ap, ◌∙◌}
+use mathlib.Core.Path.{◌≡◌, refl, sym, ap, ◌∙◌}
 use mathlib.Core.List.{List}
 use Prim.Native.Nat.{ℕ}
 use lib.ListN.{length, take}
+use Rattle.std.proofs.Common.{Result, Ok, Err}
 use Rattle.field.specs.Bytes.{padded}
 use Rattle.field.proofs.ByteLists.{take-padded}
-use Rattle.strand.specs.declared.read_check.ReadOutcome.TheVariants.{Droplet, Refused}
-use Rattle.strand.specs.declared.read_check.ReadAnswer.{ReadAnswer}
-use Rattle.strand.specs.ReadCheck.{Reading, outcome_of, payload_of, number_of, Answers}
+use Rattle.droplet.specs.declared.refusal.Refusal.{Refusal}
+use Rattle.droplet.specs.Refusals.{refusal_number}
+use Rattle.strand.specs.declared.read_check.ReadDroplet.{ReadDroplet}
+use Rattle.strand.specs.ReadCheck.{Reading, read_answer, in_64_bytes, Answers}
 use Rattle.strand.specs.ReadCheck.Reading.{droplet, refused}
 
-says-droplet : (x : Reading) (seed : ℕ) → Droplet seed ≡ outcome_of x → x ≡ droplet seed (payload_of x) (number_of x)
-says-droplet (droplet s p k) seed e = cc
-says-droplet (refused n) seed e = cc
-
-says-refused : (x : Reading) (n : ℕ) → Refused n ≡ outcome_of x → x ≡ refused n
-says-refused (droplet s p k) n e = cc
-says-refused (refused m) n e = cc
-
 -- the reading is a droplet's, and the answer's array holds its payload of L bytes
-pub record Accepts (L : ℕ) (reading : Reading) (seed : ℕ) (array : List ℕ) : Type 0 where
+pub record Accepts (L : ℕ) (reading : Reading) (seed : ℕ) (array : List ℕ) (number : ℕ) : Type 0 where
   pub payload : List ℕ
-  pub number : ℕ
   pub accepted : reading ≡ droplet seed payload number
   pub size : length payload ≡ L
   pub held : array ≡ padded 64 payload
   pub first : take L array ≡ payload
 
-module _ (L : ℕ) (reading : Reading) (r : ReadAnswer) (answers : Answers reading r) where
-  pub accepts : ((seed : ℕ) (p : List ℕ) (k : ℕ) → reading ≡ droplet seed p k → length p ≡ L)
-      → (seed : ℕ) → r.outcome ≡ Droplet seed → Accepts L reading seed r.payload
-  accepts sized seed e =
-      let payload = payload_of reading in
-      let accepted = says-droplet reading seed (sym e ∙ answers.says) in
-      let size = sized seed payload (number_of reading) accepted in
-      record {
-        payload = payload;
-        number = number_of reading;
-        accepted = accepted;
-        size = size;
-        held = answers.holds;
-        first = ap (take L) answers.holds ∙ rw size at (take-padded 64 payload);
-      }
+says-droplet : (L : ℕ) (x : Reading) (d : ReadDroplet) → ((seed : ℕ) (p : List ℕ) (k : ℕ) → x ≡ droplet seed p k → length p ≡ L)
+    → droplet d.seed d.payload d.corrected ≡ in_64_bytes x → Accepts L x d.seed d.payload d.corrected
+says-droplet L (droplet seed p k) d sized e =
+    let size = sized seed p k refl in
+    let held : d.payload ≡ padded 64 p = cc in
+    let number : d.corrected ≡ k = cc in
+    let same : d.seed ≡ seed = cc in
+    record {
+      payload = p;
+      accepted = rw (same, number);
+      size = size;
+      held = held;
+      first = ap (take L) held ∙ rw size at (take-padded 64 p);
+    }
+says-droplet L (refused n) d sized e = absurd (let z : ⊥ = cc in z)
 
-  pub refuses : (n : ℕ) → r.outcome ≡ Refused n → reading ≡ refused n
-  refuses n e = says-refused reading n (sym e ∙ answers.says)
+says-refused : (x : Reading) (n : ℕ) → refused n ≡ in_64_bytes x → x ≡ refused n
+says-refused (droplet s p k) n e = cc
+says-refused (refused m) n e = cc
+
+module _ (L : ℕ) (reading : Reading) (r : Result ReadDroplet Refusal) (answers : Answers reading r) where
+  pub accepts : ((seed : ℕ) (p : List ℕ) (k : ℕ) → reading ≡ droplet seed p k → length p ≡ L)
+      → (d : ReadDroplet) → r ≡ Ok d → Accepts L reading d.seed d.payload d.corrected
+  accepts sized d e = says-droplet L reading d sized (ap read_answer (sym e) ∙ answers.says)
+
+  pub refuses : (q : Refusal) → r ≡ Err q → reading ≡ refused (refusal_number q)
+  refuses q e = says-refused reading (refusal_number q) (ap read_answer (sym e) ∙ answers.says)

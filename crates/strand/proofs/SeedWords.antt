@@ -8,6 +8,7 @@ use lib.Seq.{take_at, drop-append-add, drop-drop}
 use Rattle.droplet.specs.declared.card.Card.{Card}
 use Rattle.droplet.specs.declared.card.Plan.{Plan}
 use Rattle.droplet.specs.PoolCard.{segment_count, weight_count, weight_sum, strand_bytes}
+use Rattle.droplet.specs.Questions.{card_refusal}
 use Rattle.droplet.specs.Droplet.{segments_of}
 use Rattle.droplet.specs.Loops.{Drawable, Picked}
 use Rattle.droplet.proofs.LegalCard.{legal}
@@ -15,7 +16,6 @@ use Rattle.droplet.proofs.Degree.{degree_of-most}
 use Rattle.droplet.proofs.Sets.{segments-length}
 use Rattle.droplet.proofs.Payload.{payload-length}
 use Rattle.strand.specs.Writer.{seed_word}
-use Rattle.strand.specs.Loops.{Makable}
 use Rattle.strand.proofs.StrandWords.{strand-length}
 
 pub word-length : (c : Card) (ws file : List ℕ) (seed : ℕ) → length (seed_word c ws file seed) ≡ strand_bytes c
@@ -42,15 +42,16 @@ module _ (ws : List ℕ) (K seed d : ℕ) (list list' : List ℕ) (picked : Pick
         (ap (drop (d + (D - d))) picked.placed ∙ rw n at (drop-append-add (segments_of ws K seed) (drop d list) (D - d))
         ∙ drop-drop (D - d) d list)
 
-module _ (c : Card) (ws : List ℕ) (plan : Plan) (list word : List ℕ) (m : Makable c ws plan list word) where
-  pub drawable : Drawable ws plan.segments plan.sum list
-  drawable =
-      let l = legal c ws m.legal in
-      record {
-        short = omega (arith, l.weights.whole, l.weights.degrees-most);
-        summed = m.sum;
-        positive = l.weights.sum-least;
-        few = omega (arith, m.segments, l.sizes.segments-most);
-        degrees = omega (arith, m.segments, l.weights.degrees-segments);
-        places = m.places;
-      }
+-- a card that no question refuses, with its plan, asks a place for each degree to draw from
+pub drawable : (c : Card) (ws : List ℕ) (plan : Plan) (list : List ℕ) → card_refusal c ws ≡ 0 → plan.segments ≡ segment_count c
+    → plan.sum ≡ weight_sum ws → weight_count ws ≤ length list → Drawable ws plan.segments plan.sum list
+drawable c ws plan list fine segments sum places =
+    let l = legal c ws fine in
+    record {
+      short = omega (arith, l.weights.whole, l.weights.degrees-most);
+      summed = sum;
+      positive = l.weights.sum-least;
+      few = omega (arith, segments, l.sizes.segments-most);
+      degrees = omega (arith, segments, l.weights.degrees-segments);
+      places = places;
+    }

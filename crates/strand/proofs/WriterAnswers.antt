@@ -9,14 +9,18 @@ use native.Mathlib.Omega.{arith}
 use borrow.Author.Tests.{eq-eqb, ne_eqb, eqb-true, eqb-false, leb-true}
 use lib.Dec.{eqb, leb}
 use lib.ListN.{length, take, take-append-drop}
+use Rattle.std.proofs.Common.{Ok, Err}
 use Rattle.field.proofs.Tests.{either}
 use Rattle.droplet.specs.declared.card.Card.{Card}
 use Rattle.droplet.specs.PoolCard.{weight_count, strand_bases}
 use Rattle.droplet.specs.Questions.{card_refusal}
+use Rattle.droplet.specs.declared.refusal.Refusal.{Refusal}
+use Rattle.droplet.specs.declared.refusal.Refusal.TheVariants.{FileBuffer}
+use Rattle.droplet.specs.Refusals.{refusal_number}
 use Rattle.droplet.proofs.Conjunctions.{and-true}
 use Rattle.droplet.proofs.LegalCard.{no_number}
+use Rattle.droplet.proofs.Refusals.{refusal_of, refusal-back}
 use Rattle.strand.specs.declared.writer.Run.{Run}
-use Rattle.strand.specs.declared.writer.WriteAnswer.TheVariants as answer
 use Rattle.strand.specs.Writer.{RunEnd, run_end, writer_run, own_refusal, writer_refusal, refusal, write_answer, answered_progress, run_answer, run_text, WriterPromise}
 use Rattle.strand.specs.WriterRuns.{AnswersRun}
 use Rattle.strand.specs.Loops.{Ran}
@@ -73,26 +77,34 @@ pub own : (c : Card) (ws : List ℕ) (file start wanted buffer numbers : ℕ) �
 unfolding writer_refusal
 own c ws file start wanted buffer numbers legal = rw (eq-eqb _ _ legal)
 
-module _ {c : Card} {ws file : List ℕ} {start wanted budget : ℕ} {out list : List ℕ} where
-  refused : {n : ℕ} → writer_refusal c ws (length file) start wanted (length out) (length list) ≡ n → (n ≡ 0 → ⊥)
-      → WriterPromise c ws file start wanted budget out list (answer.Refused n) out list
-  refused e not-zero =
-      let no = ne_eqb _ _ not-zero in
-      record { says = rw (e, no); leaves = record { prints = rw (e, no); keeps = refl; untouched = λ _. refl } }
+-- no refusal has the number 0
+not-zero : (q : Refusal) → refusal_number q ≡ 0 → ⊥
+not-zero q e =
+    let same : q ≡ FileBuffer = sym (refusal-back q) ∙ ap refusal_of e in
+    let apart : ◌≡◌ {A = ℕ} 28 0 = sym (ap refusal_number same) ∙ e in
+    omega arith
 
-  pub card-refused : {n : ℕ} → card_refusal c ws ≡ n → (n ≡ 0 → ⊥)
-      → WriterPromise c ws file start wanted budget out list (answer.Refused n) out list
-  unfolding writer_refusal
-  card-refused e not-zero = refused (rw (e, ne_eqb _ _ not-zero)) not-zero
+module _ {c : Card} {ws file : List ℕ} {start wanted budget : ℕ} {out list : List ℕ} where
+  module _ {q : Refusal} where
+    refused : writer_refusal c ws (length file) start wanted (length out) (length list) ≡ refusal_number q
+        → WriterPromise c ws file start wanted budget out list (Err q) out list
+    refused e =
+        let no = ne_eqb _ _ (not-zero q) in
+        record { says = rw (e, no); leaves = record { prints = rw (e, no); keeps = refl; untouched = λ _. refl } }
+
+    pub card-refused : card_refusal c ws ≡ refusal_number q → WriterPromise c ws file start wanted budget out list (Err q) out list
+    unfolding writer_refusal
+    card-refused e = refused (rw (e, ne_eqb _ _ (not-zero q)))
+
+    pub own-refused : card_refusal c ws ≡ 0
+        → own_refusal c (weight_count ws) (length file) start wanted (length out) (length list) ≡ refusal_number q
+        → WriterPromise c ws file start wanted budget out list (Err q) out list
+    own-refused legal e = refused (own c ws (length file) start wanted _ _ legal ∙ e)
 
   module _ (legal : card_refusal c ws ≡ 0) where
-    pub own-refused : {n : ℕ} → n ≡ own_refusal c (weight_count ws) (length file) start wanted (length out) (length list) → (n ≡ 0 → ⊥)
-        → WriterPromise c ws file start wanted budget out list (answer.Refused n) out list
-    own-refused e = refused (own c ws (length file) start wanted _ _ legal ∙ sym e)
-
     pub answered : {run : Run} {out' list' : List ℕ} → 0 ≡ own_refusal c (weight_count ws) (length file) start wanted (length out) (length list)
         → Ran c ws file start wanted budget run out list out' list'
-        → WriterPromise c ws file start wanted budget out list (answer.Written run) out' list'
+        → WriterPromise c ws file start wanted budget out list (Ok run) out' list'
     answered {run} {out'} e ran =
         let yes : eqb (writer_refusal c ws (length file) start wanted (length out) (length list)) 0 ≡ true = eq-eqb _ _ (own c ws (length file) start wanted _ _ legal ∙ sym e) in
         let n = text-length c ws file start wanted budget _ _ ran.ends in
@@ -111,7 +123,7 @@ module _ {c : Card} {ws file : List ℕ} {start wanted budget : ℕ} {out list :
 
 module _ (c : Card) (ws file : List ℕ) (start wanted budget : ℕ) (run : Run) where
   -- the end of a run, at the numbers that were answered
-  answered-end : (w : RunEnd) → writer_run c ws file start wanted budget ≡ w → write_answer (answer.Written run) ≡ run_answer w
+  answered-end : (w : RunEnd) → writer_run c ws file start wanted budget ≡ w → write_answer (Ok run) ≡ run_answer w
       → writer_run c ws file start wanted budget
       ≡ run_end run.stop (answered_progress run (run_text w))
   answered-end (run_end stop p) e says =
@@ -129,7 +141,7 @@ answers-run c ws file start wanted budget out list run out' list' p =
     let w = writer_run c ws file start wanted budget in
     elim (either (eqb no 0)) [
       | inl t ↦
-          let says : write_answer (answer.Written run) ≡ run_answer w = rw t at p.says in
+          let says : write_answer (Ok run) ≡ run_answer w = rw t at p.says in
           let ends = answered-end c ws file start wanted budget run w refl says in
           record {
             unrefused = eqb-true no 0 t;
@@ -139,7 +151,7 @@ answers-run c ws file start wanted budget out list run out' list' p =
             prints = rw t at p.leaves.prints;
           }
       | inr t ↦
-          let says : write_answer (answer.Written run) ≡ refusal no = rw t at p.says in
+          let says : write_answer (Ok run) ≡ refusal no = rw t at p.says in
           let apart : ◌≡◌ {A = ℕ} 0 1 = cc in
           absurd (let z : ⊥ = omega arith in z)
     ]

@@ -1,15 +1,14 @@
 -- What the contracts of functions below the read check and the writer cite: what they ask of a card and of a word, and what each step of
 -- the writer leaves. No sentence of document 01 stands here. Assumes nothing.
-use Rattle.std.specs.Prelude.{◌≡◌, cond, List, ◌++◌, ℕ, ◌≤◌, ◌+◌, ◌*◌, length, take, drop}
+use Rattle.std.specs.Prelude.{◌≡◌, cond, List, [], ◌++◌, ℕ, ◌≤◌, ◌+◌, ◌*◌, length, take, drop}
 use Rattle.field.specs.CheckBytes.{CheckCount}
 use Rattle.droplet.specs.declared.card.Card.{Card}
-use Rattle.droplet.specs.PoolCard.{strand_bytes, segment_count, weight_count, weight_sum, strand_bases}
-use Rattle.droplet.specs.declared.card.Plan.{Plan}
-use Rattle.droplet.specs.Questions.{card_refusal}
+use Rattle.droplet.specs.PoolCard.{strand_bytes, weight_count, strand_bases}
 use Rattle.screen.specs.declared.limits.Verdict.{Verdict}
 use Rattle.screen.specs.Screen.{word_verdict, screen_passes}
 use Rattle.strand.specs.declared.writer.Run.{Run}
-use Rattle.strand.specs.Writer.{seed_word, strand_line, run_end, writer_run, answered_progress}
+use Rattle.strand.specs.declared.writer.Stop.TheVariants.{Spent}
+use Rattle.strand.specs.Writer.{seed_word, strand_line, judged, run_end, writer_run, answered_progress}
 
 -- what the functions that check a read need of a card that was not refused
 pub record InRange (c : Card) : Type 0 where
@@ -23,31 +22,44 @@ pub record IsWord (c : Card) (word : List ℕ) : Type 0 where
 
 -- ---- the writer
 
--- a text in a buffer from a place on
-unfoldable pub with_text : ℕ → List ℕ → List ℕ → List ℕ
-with_text at text out = take at out ++ (text ++ drop (at + length text) out)
+-- a run that has tried no seed yet
+abbrev pub begun : ℕ → Run
+begun start = record { stop = Spent; made = 0; tried = 0; next = start; dropped_run = 0; dropped_gc = 0 }
 
--- what a seed's word asks: a card that no question refuses, K and the weights' sum, D places, and room for the longest word
-pub record Makable (c : Card) (weights : List ℕ) (plan : Plan) (list word : List ℕ) : Type 0 where
-  pub legal : card_refusal c weights ≡ 0
-  pub segments : plan.segments ≡ segment_count c
-  pub sum : plan.sum ≡ weight_sum weights
-  pub places : weight_count weights ≤ length list
-  pub room : 72 ≤ length word
+-- a run with one more seed, by the verdict on its strand
+abbrev pub counted : Verdict → Run → Run
+counted v run =
+    let one = judged v run.next [] in
+    record {
+      stop = run.stop;
+      made = run.made + one.made;
+      tried = run.tried + one.tried;
+      next = one.next;
+      dropped_run = run.dropped_run + one.dropped_run;
+      dropped_gc = run.dropped_gc + one.dropped_gc;
+    }
+
+-- each seed tried counts once
+pub record Counts (run : Run) : Type 0 where
+  pub adds_up : run.tried ≡ run.made + (run.dropped_run + run.dropped_gc)
+
+-- a text at the front of a buffer
+unfoldable pub with_front : List ℕ → List ℕ → List ℕ
+with_front text out = text ++ drop (length text) out
 
 -- the word of a seed stands in a buffer's first bytes, and the number list is as it was past D
 pub record Made (c : Card) (weights file : List ℕ) (seed : ℕ) (list list' word' : List ℕ) : Type 0 where
   pub fills : take (strand_bytes c) word' ≡ seed_word c weights file seed
   pub keeps : drop (weight_count weights) list' ≡ drop (weight_count weights) list
 
--- a strand's line stands at a place of the buffer if it passes the screen, and the result is the verdict on it
-pub record Printed (c : Card) (word : List ℕ) (at : ℕ) (v : Verdict) (out out' : List ℕ) : Type 0 where
+-- a strand's line stands at the front of the buffer if it passes the screen, and the result is the verdict on it
+pub record Printed (c : Card) (word : List ℕ) (v : Verdict) (out out' : List ℕ) : Type 0 where
   pub says : v ≡ word_verdict c word
-  pub prints : out' ≡ cond (screen_passes c word) (with_text at (strand_line word) out) out
+  pub prints : out' ≡ cond (screen_passes c word) (with_front (strand_line word) out) out
 
 -- the same for the strand of a seed, with the number list as it was past D
-pub record Tried (c : Card) (weights file : List ℕ) (seed at : ℕ) (v : Verdict) (out list out' list' : List ℕ) : Type 0 where
-  pub printed : Printed c (seed_word c weights file seed) at v out out'
+pub record Tried (c : Card) (weights file : List ℕ) (seed : ℕ) (v : Verdict) (out list out' list' : List ℕ) : Type 0 where
+  pub printed : Printed c (seed_word c weights file seed) v out out'
   pub keeps : drop (weight_count weights) list' ≡ drop (weight_count weights) list
 
 -- the run ended so, with its text at the front of the buffer and the rest of the buffer as it was

@@ -1,6 +1,6 @@
 -- Document 01, "Questions in their order": the read check, 2 to 4 and 27, then 9 to 13, and what it answers; with document 02's Item 3, by
 -- which 11 asks for a codeword within R/2 bytes, and 12 and 13 are asked of that. Assumes nothing.
-use Rattle.std.specs.Prelude.{◌≡◌, cond, List, [], ◌++◌, ℕ, eqb, length, take, drop}
+use Rattle.std.specs.Prelude.{◌≡◌, cond, List, ◌++◌, ℕ, eqb, length, take, drop, Result, Ok, Err}
 use Rattle.field.specs.Bytes.{from_big_endian, to_big_endian, padded}
 use Rattle.field.specs.CheckBytes.{parity}
 use Rattle.droplet.specs.declared.card.Card.{Card}
@@ -9,9 +9,9 @@ use Rattle.droplet.specs.Questions.{card_refusal}
 use Rattle.correction.specs.Correction.{Corrected, codeword, none, corrected}
 use Rattle.screen.specs.Letters.{all_letters, letters_word}
 use Rattle.screen.specs.Screen.{screen_passes}
-use Rattle.strand.specs.declared.read_check.ReadOutcome.{ReadOutcome}
-use Rattle.strand.specs.declared.read_check.ReadOutcome.TheVariants as outcome
-use Rattle.strand.specs.declared.read_check.ReadAnswer.{ReadAnswer}
+use Rattle.droplet.specs.declared.refusal.Refusal.{Refusal}
+use Rattle.droplet.specs.Refusals.{refusal_number}
+use Rattle.strand.specs.declared.read_check.ReadDroplet.{ReadDroplet}
 
 -- what the read check says of a read: the droplet's seed, its L payload bytes and "the number of bytes mended", or the refusal number
 pub data Reading : Type 0 where
@@ -49,24 +49,19 @@ letters_reading c read =
 unfoldable pub read_check : Card → List ℕ → List ℕ → Reading
 read_check c weights read = cond (eqb (card_refusal c weights) 0) (letters_reading c read) (refused (card_refusal c weights))
 
--- what the code's answer holds: the outcome by its cases, "a read check's payload is 64 bytes, those past L being 0", and the number
-abbrev pub outcome_of : Reading → ReadOutcome
-outcome_of (droplet seed payload k) = outcome.Droplet seed
-outcome_of (refused n) = outcome.Refused n
+-- what the code answers
+abbrev pub read_answer : Result ReadDroplet Refusal → Reading
+read_answer (Ok d) = droplet d.seed d.payload d.corrected
+read_answer (Err q) = refused (refusal_number q)
 
-abbrev pub payload_of : Reading → List ℕ
-payload_of (droplet seed payload k) = payload
-payload_of (refused n) = []
-
-abbrev pub number_of : Reading → ℕ
-number_of (droplet seed payload k) = k
-number_of (refused n) = 0
+-- "a read check's payload is 64 bytes, those past L being 0"
+abbrev pub in_64_bytes : Reading → Reading
+in_64_bytes (droplet seed payload k) = droplet seed (padded 64 payload) k
+in_64_bytes (refused n) = refused n
 
 -- the promise of the read check
-pub record Answers (reading : Reading) (r : ReadAnswer) : Type 0 where
-  pub says : r.outcome ≡ outcome_of reading
-  pub holds : r.payload ≡ padded 64 (payload_of reading)
-  pub counts : r.corrected ≡ number_of reading
+pub record Answers (reading : Reading) (r : Result ReadDroplet Refusal) : Type 0 where
+  pub says : read_answer r ≡ in_64_bytes reading
 
 -- "Seed, payload and R check bytes": the word of a strand
 unfoldable pub strand_word : Card → ℕ → List ℕ → List ℕ

@@ -1,5 +1,5 @@
 -- Document 01, "Writer", and its questions 5 to 8, with the counts of document 02, Item 12. Assumes nothing.
-use Rattle.std.specs.Prelude.{◌≡◌, false, cond, ◌&&◌, List, [], ◌∷◌, ◌++◌, ℕ, zero, suc, ◌+◌, ◌*◌, eqb, leb, length, drop}
+use Rattle.std.specs.Prelude.{◌≡◌, false, cond, ◌&&◌, List, [], ◌∷◌, ◌++◌, ℕ, zero, suc, ◌+◌, ◌*◌, eqb, leb, length, drop, Result, Ok, Err}
 use Rattle.field.specs.Generator.{seed_after}
 use Rattle.droplet.specs.declared.card.Card.{Card}
 use Rattle.droplet.specs.PoolCard.{segment_count, weight_count, strand_bases}
@@ -12,8 +12,8 @@ use Rattle.screen.specs.Screen.{word_verdict}
 use Rattle.strand.specs.declared.writer.Run.{Run}
 use Rattle.strand.specs.declared.writer.Stop.{Stop}
 use Rattle.strand.specs.declared.writer.Stop.TheVariants.{Done, Spent}
-use Rattle.strand.specs.declared.writer.WriteAnswer.{WriteAnswer}
-use Rattle.strand.specs.declared.writer.WriteAnswer.TheVariants as answer
+use Rattle.droplet.specs.declared.refusal.Refusal.{Refusal}
+use Rattle.droplet.specs.Refusals.{refusal_number}
 use Rattle.strand.specs.ReadCheck.{strand_word}
 
 -- the payload that a file gives for a seed, and the word of its strand
@@ -90,9 +90,9 @@ pub data Written : Type 0 where
   written : Stop → ℕ → ℕ → ℕ → ℕ → ℕ → Written
   refusal : ℕ → Written
 
-abbrev pub write_answer : WriteAnswer → Written
-write_answer (answer.Written run) = written run.stop run.made run.tried run.next run.dropped_run run.dropped_gc
-write_answer (answer.Refused n) = refusal n
+abbrev pub write_answer : Result Run Refusal → Written
+write_answer (Ok run) = written run.stop run.made run.tried run.next run.dropped_run run.dropped_gc
+write_answer (Err q) = refusal (refusal_number q)
 
 -- an answer's numbers, with a text
 abbrev pub answered_progress : Run → List ℕ → Progress
@@ -122,6 +122,6 @@ pub record WriterLeaves (c : Card) (weights file : List ℕ) (start wanted budge
   pub untouched : eqb (writer_refusal c weights (length file) start wanted (length out) (length list)) 0 ≡ false → list' ≡ list
 
 -- the promise of the writer
-pub record WriterPromise (c : Card) (weights file : List ℕ) (start wanted budget : ℕ) (out list : List ℕ) (r : WriteAnswer) (out' list' : List ℕ) : Type 0 where
+pub record WriterPromise (c : Card) (weights file : List ℕ) (start wanted budget : ℕ) (out list : List ℕ) (r : Result Run Refusal) (out' list' : List ℕ) : Type 0 where
   pub says : write_answer r ≡ writer_answer c weights file start wanted budget (length out) (length list)
   pub leaves : WriterLeaves c weights file start wanted budget out list out' list'

@@ -1,6 +1,6 @@
 -- What a run of the writer did, in the words of document 01, "Writer", and of document 02, Item 12; that it can be continued; that
 -- every answer of the writer tells of such a run; and a run with the lines that it printed. Assumes nothing.
-use Rattle.std.specs.Prelude.{◌≡◌, cond, List, [], ◌∷◌, ◌++◌, ◌↔◌, ℕ, ◌+◌, ◌*◌, ◌^◌, ◌<◌, ◌≤◌, length, take, drop}
+use Rattle.std.specs.Prelude.{◌≡◌, cond, List, [], ◌∷◌, ◌++◌, ◌↔◌, ℕ, ◌+◌, ◌*◌, ◌^◌, ◌<◌, ◌≤◌, length, take, drop, Ok}
 use Rattle.field.specs.Generator.{seed_after, iterate, seeds_from}
 use Rattle.droplet.specs.declared.card.Card.{Card}
 use Rattle.droplet.specs.PoolCard.{strand_bases}
@@ -10,7 +10,6 @@ use Rattle.screen.specs.Screen.{word_verdict, is}
 use Rattle.strand.specs.declared.writer.Run.{Run}
 use Rattle.strand.specs.declared.writer.Stop.{Stop}
 use Rattle.strand.specs.declared.writer.Stop.TheVariants.{Done, Spent}
-use Rattle.strand.specs.declared.writer.WriteAnswer.TheVariants as answer
 use Rattle.strand.specs.Writer.{seed_word, strand_line, Progress, followed, RunEnd, run_end, writer_run, writer_refusal, answered_progress, WriterPromise}
 
 -- the seeds of a list whose strands have this verdict, in their order
@@ -76,7 +75,7 @@ pub record AnsweredRun (c : Card) (weights file : List ℕ) (start wanted budget
 -- so it is for every call that is not refused
 abbrev pub AnswersRun : Type 0
 AnswersRun = (c : Card) (weights file : List ℕ) (start wanted budget : ℕ) (out list : List ℕ) (run : Run) (out' list' : List ℕ)
-    → WriterPromise c weights file start wanted budget out list (answer.Written run) out' list'
+    → WriterPromise c weights file start wanted budget out list (Ok run) out' list'
     → AnsweredRun c weights file start wanted budget out list run out'
 
 -- a call of the writer for a file, not refused: what it was handed, its answer, and what it left
@@ -89,7 +88,7 @@ pub record PrintedRun (c : Card) (weights file : List ℕ) : Type 0 where
   pub run : Run
   pub out' : List ℕ
   pub list' : List ℕ
-  pub wrote : WriterPromise c weights file start wanted budget out list (answer.Written run) out' list'
+  pub wrote : WriterPromise c weights file start wanted budget out list (Ok run) out' list'
   -- the start is of 32 bits; that the budget is too is a premise where it matters
   pub fits : start < 2 ^ 32
 

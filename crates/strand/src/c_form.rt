@@ -1,13 +1,15 @@
-ghost use Rattle.std.specs.Prelude.{◌≡◌, ◌≤◌, length, take};
+ghost use Rattle.std.specs.Prelude.{◌≡◌, ◌≤◌, take};
+ghost use Rattle.droplet.specs.Refusals.{asked};
 ghost use Rattle.strand.specs.ReadCheck.{read_check};
 ghost use Rattle.strand.specs.CForm.{handed_card, droplet_over, handed_over};
 ghost use Rattle.strand.specs.CForm.CAnswer.{handed};
 
-use crate::read_check::ReadOutcome;
+use crate::read_check::ReadDroplet;
 use crate::{droplet_bytes, read_check};
 use droplet::card::Card;
+use droplet::refusal::Refusal;
 
-// The card of the numbers that a C host hands over, for all C forms.
+// The card of the numbers that a C host hands over, for all C forms. The eight numbers are the C interface's.
 pub fn handed_card(f: u32, l: u8, r: u8, m: u8, lo: u16, hi: u16, dealt: u8, width: u32) -> Card
     ensures { result ≡ handed_card f l r m lo hi dealt width }
 {
@@ -24,19 +26,28 @@ pub fn handed_card(f: u32, l: u8, r: u8, m: u8, lo: u16, hi: u16, dealt: u8, wid
 }
 
 // Question 16, and then the droplet into the lent buffer.
-fn hand_over(seed: u32, l: usize, payload: &[u8], out: &mut [u8]) -> u32
-    requires { (l ≤ 64) × (length payload.now ≡ 64) }
-    ensures { handed result out.new ≡ droplet_over l out.old seed (take l payload.now) }
+fn hand_over(l: u8, droplet: ReadDroplet, out: &mut [u8]) -> Result<(), Refusal>
+    requires { l ≤ 64 }
+    ensures { handed (asked result) out.new ≡ droplet_over l out.old droplet.seed (take l droplet.payload) }
 {
+    let l = usize::from(l);
     if out.len() < 4 + l {
-        return 16;
+        return Err(Refusal::NoSpace);
     }
-    droplet_bytes::put_droplet(seed, &payload[..l], out);
-    0
+    droplet_bytes::put_droplet(droplet.seed, &droplet.payload[..l], out);
+    Ok(())
+}
+
+// The read check, and then the droplet that it finds into the lent buffer.
+fn check_into(card: Card, weights: &[u8], read: &[u8], out: &mut [u8]) -> Result<(), Refusal>
+    ensures { handed (asked result) out.new ≡ handed_over card.l out.old (read_check card weights.now read.now) }
+{
+    let droplet = read_check::check_read(card, weights, read)?;
+    hand_over(card.l, droplet, out)
 }
 
 // The read check for a host written in C: 0 and the droplet in the buffer's first 4 + L bytes, or the refusal number. The crate strand_c
-// exports it.
+// exports it. The number, and the card as eight numbers, are the C interface's.
 pub fn fountain_check_read(
     f: u32,
     l: u8,
@@ -54,11 +65,8 @@ pub fn fountain_check_read(
         (read_check (handed_card f l r m lo hi dealt width) weights.now read.now) }
 {
     let card = handed_card(f, l, r, m, lo, hi, dealt, width);
-    let answer = read_check::check_read(card, weights, read);
-    let outcome = answer.outcome;
-    let payload = answer.payload;
-    match outcome {
-        ReadOutcome::Refused(n) => n as u32,
-        ReadOutcome::Droplet(seed) => hand_over(seed, l as usize, &payload, out),
+    match check_into(card, weights, read, out) {
+        Ok(()) => 0,
+        Err(refusal) => u32::from(refusal.number()),
     }
 }

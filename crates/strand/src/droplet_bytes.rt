@@ -9,7 +9,7 @@ pub fn seed_of(word: &[u8]) -> u32
     requires { 4 ≤ length word.now }
     ensures { result ≡ word_seed word.now }
 {
-    bytes::join(word[0], word[1], word[2], word[3])
+    bytes::number_at(word, 0)
 }
 
 // Writes a droplet, seed and payload, at the start of a buffer.
@@ -17,5 +17,5 @@ pub fn put_droplet(seed: u32, payload: &[u8], out: &mut [u8])
     requires { 4 + length payload.now ≤ length out.old }
     ensures { out.new ≡ to_big_endian seed ++ (payload.now ++ drop (4 + length payload.now) out.old) }
 {
-    bytes::copy_both(&bytes::split(seed), payload, out);
+    bytes::copy_both(&seed.to_be_bytes(), payload, out);
 }

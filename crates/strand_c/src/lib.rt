@@ -1,4 +1,4 @@
-// The C form of the read check, as an archive of its own. What it does stands in the strand crate, with the same clauses.
+// The C form of the read check, as an archive of its own: the C interface. What it does stands in the strand crate, with the same clauses.
 #![tactic(auto)]
 
 ghost use Rattle.std.specs.Prelude.{◌≡◌};

@@ -10,7 +10,7 @@ use lib.Seq.{take_at, take_all}
 use Rattle.field.specs.Bytes.{AllBytes}
 use Rattle.droplet.specs.declared.card.Card.{Card}
 use Rattle.droplet.specs.Questions.{card_refusal}
-use Rattle.interleave.specs.declared.file.ReorderAnswer.TheVariants.{Done}
+use Rattle.std.proofs.Common.{Ok}
 use Rattle.interleave.specs.InterleaveCalls.{done, reorder_answer, file_reordered}
 use Rattle.interleave.proofs.ReorderAnswers.{moved, goes_through}
 use Rattle.interleave.proofs.InterleaveRoundTrip.{file-bytes, written, written-length, calls-give-back}
@@ -27,7 +27,7 @@ module _ (c : Card) (ws : List ℕ) (fine : card_refusal c ws ≡ 0) where
           bytes = bytes;
           target = original;
           space = omega (arith, size);
-          answer = Done;
+          answer = Ok tt;
           target' = after;
           promise = moved false c ws original original fine (omega (arith, size)) (omega (arith, size)) after refl;
           handed = refl;

@@ -14,7 +14,8 @@ use Rattle.droplet.specs.declared.card.Card.{Card}
 use Rattle.droplet.specs.Questions.{card_refusal}
 use Rattle.strand.specs.ReadCheck.{Reading, droplet, refused, read_check}
 use Rattle.strand.specs.Writer.{payload_for}
-use Rattle.decoder.specs.declared.store.StoreAnswer.TheVariants as reply
+use Rattle.std.proofs.Common.{Err}
+use Rattle.droplet.specs.declared.refusal.Refusal.TheVariants.{OtherPayload}
 use Rattle.decoder.specs.Store.{LegalRead, Record, Stored, accepted, repeat, replaced, refusal, store_answer, takes_over, better, droplet_read}
 use Rattle.decoder.specs.Demand3.{reads_in, Call, reads_of, next_count, Chained}
 use Rattle.vault.specs.Vault.{LegalPrinted, CleanPrinted}
@@ -89,14 +90,14 @@ module _ (P C : LegalRead → Type 0)
 
     step-15 : (o : Reading) → OwnNumber o → InReading P o → Step space rs o a rs' → InReading C o → number_in a ≡ 15 → ⊥
     step-15 (droplet s p k) own f m c e = move-15 space rs h (droplet_read s p k) a rs' f m c e
-    step-15 (refused n) own f m c e = let says = ap number_in (sym m.says) ∙ e in omega arith
+    step-15 (refused n) own f m c e = let most = own.most in let says = ap number_in (sym m.says) ∙ e in omega arith
 
   -- ---- a list of calls
 
   module _ (c : Card) (ws : List ℕ) (fine : card_refusal c ws ≡ 0) (lent : List ℕ) where
     chain-15 : (rs : List Record) → All P (reads_in rs) → (buffer : List ℕ) (count : ℕ) → Stocked c.l lent rs buffer count
         → (calls : List Call) → Chained c ws buffer count calls → All (λ read. InReading P (read_check c ws read)) (reads_of calls)
-        → All (λ k. InReading C (read_check c ws k.read) → k.answer ≡ reply.Refused 15 → ⊥) calls
+        → All (λ k. InReading C (read_check c ws k.read) → k.answer ≡ Err OtherPayload → ⊥) calls
     unfolding Chained
     chain-15 rs h buffer count held [] t f = tt
     chain-15 rs h buffer count held (k ∷ ks) t f =
@@ -120,7 +121,7 @@ module _ (c : Card) (ws : List ℕ) (fine : card_refusal c ws ≡ 0) (file lent 
   one-payload r q e hr hq = sym hq ∙ ap (payload_for c ws file) e ∙ hr
 
   pub clean_never_15 : CleanPrinted c ws file (reads_of calls)
-      → All (λ k. (s : ℕ) (p : List ℕ) → read_check c ws k.read ≡ droplet s p 0 → k.answer ≡ reply.Refused 15 → ⊥) calls
+      → All (λ k. (s : ℕ) (p : List ℕ) → read_check c ws k.read ≡ droplet s p 0 → k.answer ≡ Err OtherPayload → ⊥) calls
   clean_never_15 printed =
       all_map _ _ (λ k f s p e. f (subst (InReading (λ r. r.clean ≡ true)) (sym e) refl)) calls
       (chain-15 (CleanOfFile c ws file) (λ r. r.clean ≡ true)
@@ -131,7 +132,7 @@ module _ (c : Card) (ws : List ℕ) (fine : card_refusal c ws ≡ 0) (file lent 
   anything (droplet s p k) = tt
   anything (refused n) = tt
 
-  pub never_15 : LegalPrinted c ws file (reads_of calls) → All (λ k. k.answer ≡ reply.Refused 15 → ⊥) calls
+  pub never_15 : LegalPrinted c ws file (reads_of calls) → All (λ k. k.answer ≡ Err OtherPayload → ⊥) calls
   never_15 printed =
       all_map _ _ (λ k f. f (anything (read_check c ws k.read))) calls
       (chain-15 (OfFile c ws file) (λ r. Unit {0}) (λ r q worse e any hr hq. one-payload r q e hr hq)

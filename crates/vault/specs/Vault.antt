@@ -4,21 +4,20 @@
 -- Reads may be lost, repeated and in any order, and what the read check refuses may be anything.
 -- The file is the one that the writer was handed. Where the card has a width, that is the customer's file interleaved (document 02,
 -- Item 14: "what the restorer promises is promised of the dealt file"), and the last step gives the customer's. Assumes nothing.
-use Rattle.std.specs.Prelude.{◌≡◌, true, List, [], ◌++◌, ◌⊎◌, ℕ, ◌*◌, ◌<◌, ◌≤◌, length, take}
+use Rattle.std.specs.Prelude.{◌≡◌, true, List, [], ◌++◌, ◌⊎◌, ℕ, ◌*◌, ◌<◌, ◌≤◌, length, take, Result, Ok, Err}
 use Rattle.field.specs.Bytes.{All, AllBytes}
 use Rattle.droplet.specs.declared.card.Card.{Card}
 use Rattle.droplet.specs.PoolCard.{segment_count, card_weights}
 use Rattle.droplet.specs.Questions.{accepted, card_reading}
 use Rattle.droplet.specs.Droplet.{segment}
-use Rattle.interleave.specs.declared.file.ReorderAnswer.{ReorderAnswer}
+use Rattle.droplet.specs.declared.refusal.Refusal.{Refusal}
+use Rattle.droplet.specs.declared.refusal.Refusal.TheVariants.{OtherPayload, FullCount}
 use Rattle.interleave.specs.InterleaveCalls.{done, reorder_answer, InterleavePromise, DeinterleavePromise}
 use Rattle.strand.specs.ReadCheck.{droplet, read_check}
 use Rattle.strand.specs.LegalStrand.{bytes_apart, NearStrand}
 use Rattle.strand.specs.Writer.{payload_for}
 use Rattle.strand.specs.WriterRuns.{PrintedRun, printed_line}
-use Rattle.decoder.specs.declared.store.StoreAnswer.TheVariants as reply
 use Rattle.decoder.specs.declared.restorer.Sheet.{Sheet}
-use Rattle.decoder.specs.declared.restorer.RestoreAnswer.TheVariants as sheet
 use Rattle.decoder.specs.Store.{LegalRead, record_bytes, records}
 use Rattle.decoder.specs.Restorer.{Droplet, droplets, marked, present, RestorePromise}
 use Rattle.decoder.specs.Among.{Among, AllAmong}
@@ -89,7 +88,7 @@ module _ (c : Card) (weights : List ℕ) where
     pub payload : List ℕ
     pub among : Among call calls
     pub clean : read_check c weights call.read ≡ droplet s payload 0
-    pub not_20 : call.answer ≡ reply.Refused 20 → ⊥
+    pub not_20 : call.answer ≡ Err FullCount → ⊥
 
   -- a job: a file of F bytes, and store calls from an empty store, a buffer of any length and bytes
   pub record Job (file lent : List ℕ) (calls : List Call) : Type 0 where
@@ -108,7 +107,7 @@ module _ (c : Card) (weights : List ℕ) where
     pub bytes : AllBytes original
     pub target : List ℕ
     pub space : c.f ≤ length target
-    pub answer : ReorderAnswer
+    pub answer : Result (Unit {0}) Refusal
     pub target' : List ℕ
     pub promise : InterleavePromise c weights original target answer target'
     pub handed : file ≡ take c.f target'
@@ -119,7 +118,7 @@ module _ (c : Card) (weights : List ℕ) where
     pub marks : List ℕ
     pub list : List ℕ
     pub list' : List ℕ
-    pub promise : RestorePromise c weights store.buffer store.count file marks list (sheet.Restored r) file' marks' list'
+    pub promise : RestorePromise c weights store.buffer store.count file marks list (Ok r) file' marks' list'
 
   -- ---- the claim
 
@@ -137,7 +136,7 @@ module _ (c : Card) (weights : List ℕ) where
   -- a call that undeals what a restore left, into a buffer with space for F bytes: it is done, and the customer's bytes are back
   abbrev pub OriginalBack : List ℕ → List ℕ → Type 0
   OriginalBack original file' =
-      (buffer : List ℕ) (answer : ReorderAnswer) (buffer' : List ℕ) → DeinterleavePromise c weights file' buffer answer buffer'
+      (buffer : List ℕ) (answer : Result (Unit {0}) Refusal) (buffer' : List ℕ) → DeinterleavePromise c weights file' buffer answer buffer'
       → c.f ≤ length buffer → (reorder_answer answer ≡ done) × (take c.f buffer' ≡ original)
 
   -- what any restore of one store leaves present, any restore of another leaves present too
@@ -185,10 +184,10 @@ module _ (c : Card) (weights : List ℕ) where
         → (r : Sheet) (file' marks' : List ℕ) → SheetFrom store r file' marks' → RightSheet file r file' marks'
     -- then no clean read is refused for a payload that differs from the store's
     pub clean_never_15 : (file lent : List ℕ) (calls : List Call) → AllBytes file → Chained c weights lent 0 calls → CleanPrinted file (reads_of calls)
-        → All (λ k. (s : ℕ) (p : List ℕ) → read_check c weights k.read ≡ droplet s p 0 → k.answer ≡ reply.Refused 15 → ⊥) calls
+        → All (λ k. (s : ℕ) (p : List ℕ) → read_check c weights k.read ≡ droplet s p 0 → k.answer ≡ Err OtherPayload → ⊥) calls
     -- and no read at all where each legal one is near to a strand of the file
     pub never_15 : (file lent : List ℕ) (calls : List Call) → AllBytes file → Chained c weights lent 0 calls → LegalPrinted file (reads_of calls)
-        → All (λ k. k.answer ≡ reply.Refused 15 → ⊥) calls
+        → All (λ k. k.answer ≡ Err OtherPayload → ⊥) calls
     -- every record in the store of a job is a droplet of the file
     pub store : (file lent : List ℕ) (calls : List Call) → Job file lent calls → GivesAll c.l file (droplets_on (store_after lent calls))
     -- every sheet that is restored from the store is right

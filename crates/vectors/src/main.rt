@@ -7,68 +7,67 @@ ghost use Rattle.field.specs.CheckBytes.{CheckCount};
 
 use basecalls::choice;
 use correction::correct;
-use correction::correct::Correction;
-use decoder::restorer::RestoreAnswer;
+use decoder::restorer::Sheet;
 use decoder::store::StoreAnswer;
 use decoder::{restorer, store};
 use droplet::card::Card;
-use field::bytes::join;
+use droplet::refusal::Refusal;
 use field::{bytes, check_bytes};
 use std::io;
 use strand::read_check;
-use strand::read_check::ReadOutcome;
 
-// Four bytes, most significant first.
-fn print_bytes(rt: &impl Print, name: &str, bytes: [u8; 4]) -> io::Result<()> {
-    let word = join(bytes[0], bytes[1], bytes[2], bytes[3]);
-    println!(rt; "{name}{word:08x}")
-}
+// A QR code block of 16 data and 10 check bytes.
+type Block = [u8; 26];
 
-fn print_number(rt: &impl Print, name: &str, n: u64) -> io::Result<()> {
-    print!(rt; "{name}{n}")
+// The symbol of "01234567" in ISO/IEC 18004, Annex I.
+const ISO: Block =
+    *b"\x10\x20\x0C\x56\x61\x80\xEC\x11\xEC\x11\xEC\x11\xEC\x11\xEC\x11\xA5\x24\xD4\xC1\xED\x36\xC7\x87\x2C\x55";
+
+// The message of Wikiversity's "Reed-Solomon codes for coders", which has the check sums after the loss of its first byte too.
+const WIKIVERSITY: Block =
+    *b"\x40\xD2\x75\x47\x76\x17\x32\x06\x27\x26\x96\xC6\xC6\x96\x70\xEC\xBC\x2A\x90\x13\x6B\xAF\xEF\xFD\x4B\xE0";
+
+// A block after the loss of its first `count` bytes.
+fn after_loss(mut block: Block, count: usize) -> Block
+    requires { count ≤ 26 }
+{
+    block[..count].fill(0);
+    block
 }
 
 // The check sums of a word for R = 2 and for R = 4, those past R being 0.
 fn print_sums(rt: &impl Print, name: &str, word: &[u8]) -> io::Result<()> {
-    print!(rt; "{name}")?;
-    print_bytes(rt, " R=2 check sums ", check_bytes::syndromes_of(2, word))?;
-    print!(rt; "{name}")?;
-    print_bytes(rt, " R=4 check sums ", check_bytes::syndromes_of(4, word))
+    let two = u32::from_be_bytes(check_bytes::syndromes_of(2, word));
+    let four = u32::from_be_bytes(check_bytes::syndromes_of(4, word));
+    println!(rt; "{name} R=2 check sums {two:08x}")?;
+    println!(rt; "{name} R=4 check sums {four:08x}")
 }
 
 // What a word becomes: how many bytes were wrong, and its first four.
-fn print_correction(rt: &impl Print, name: &str, r: u8, published: &[u8]) -> io::Result<()>
-    requires { CheckCount r × (length published.now ≤ 26) }
+fn print_correction(rt: &impl Print, name: &str, r: u8, mut word: Block) -> io::Result<()>
+    requires { CheckCount r }
 {
-    let mut word = [0u8; 26];
-    bytes::copy(published, &mut word);
-    print!(rt; "{name}")?;
-    print_number(rt, " R=", r as u64)?;
-    match correct::correct_word(r, &mut word) {
-        Correction::Done(k) => {
-            print_number(rt, " mended ", k as u64)?;
-            print_bytes(rt, " first bytes ", [word[0], word[1], word[2], word[3]])
-        }
-        Correction::Hopeless => println!(rt; " mended none"),
+    let corrected = correct::correct_word(r, &mut word);
+    let first = u32::from_be_bytes([word[0], word[1], word[2], word[3]]);
+    match corrected {
+        Some(k) => println!(rt; "{name} R={r} mended {k} first bytes {first:08x}"),
+        None => println!(rt; "{name} R={r} mended none"),
     }
 }
 
-fn print_corrections(rt: &impl Print, name: &str, published: &[u8]) -> io::Result<()>
-    requires { length published.now ≤ 26 }
-{
-    print_correction(rt, name, 2, published)?;
-    print_correction(rt, name, 4, published)
+fn print_corrections(rt: &impl Print, name: &str, word: Block) -> io::Result<()> {
+    print_correction(rt, name, 2, word)?;
+    print_correction(rt, name, 4, word)
 }
 
 // The check bytes of the message 01 are the generator polynomial without its first coefficient, which is 1.
 fn reed_solomon(rt: &impl Print, one: &[u8], message: &[u8]) -> io::Result<()> {
-    print_bytes(rt, "01 R=2 check bytes ", check_bytes::parity_of(2, one))?;
-    print_bytes(rt, "01 R=4 check bytes ", check_bytes::parity_of(4, one))?;
-    print_bytes(
-        rt,
-        "12 34 56 R=4 check bytes ",
-        check_bytes::parity_of(4, message),
-    )
+    let one_two = u32::from_be_bytes(check_bytes::parity_of(2, one));
+    let one_four = u32::from_be_bytes(check_bytes::parity_of(4, one));
+    let four = u32::from_be_bytes(check_bytes::parity_of(4, message));
+    println!(rt; "01 R=2 check bytes {one_two:08x}")?;
+    println!(rt; "01 R=4 check bytes {one_four:08x}")?;
+    println!(rt; "12 34 56 R=4 check bytes {four:08x}")
 }
 
 fn bench_card() -> Card {
@@ -84,26 +83,23 @@ fn bench_card() -> Card {
     }
 }
 
-fn print_store(rt: &impl Print, answer: StoreAnswer) -> io::Result<()> {
+fn print_store(rt: &impl Print, answer: Result<StoreAnswer, Refusal>) -> io::Result<()> {
     match answer {
-        StoreAnswer::Accepted(n) => print_number(rt, "accepted, count ", n as u64)?,
-        StoreAnswer::Repeat(n) => print_number(rt, "repeat, count ", n as u64)?,
-        StoreAnswer::Replaced(n) => print_number(rt, "replaced, count ", n as u64)?,
-        StoreAnswer::Refused(n) => print_number(rt, "refused ", n as u64)?,
+        Ok(StoreAnswer::Accepted(n)) => println!(rt; "accepted, count {n}"),
+        Ok(StoreAnswer::Repeat(n)) => println!(rt; "repeat, count {n}"),
+        Ok(StoreAnswer::Replaced(n)) => println!(rt; "replaced, count {n}"),
+        Err(refusal) => println!(rt; "refused {refusal}"),
     }
-    println!(rt;)
 }
 
-fn print_restore(rt: &impl Print, answer: RestoreAnswer) -> io::Result<()> {
+fn print_restore(rt: &impl Print, answer: Result<Sheet, Refusal>) -> io::Result<()> {
     match answer {
-        RestoreAnswer::Restored(sheet) => {
-            print_number(rt, "present ", sheet.present as u64)?;
-            print_number(rt, " sweeps ", sheet.passes as u64)?;
-            print_number(rt, " contradictions ", sheet.contradictions as u64)?;
-        }
-        RestoreAnswer::Refused(n) => print_number(rt, "refused ", n as u64)?,
+        Ok(sheet) => println!(rt;
+            "present {} sweeps {} contradictions {}",
+            sheet.present, sheet.passes, sheet.contradictions
+        ),
+        Err(refusal) => println!(rt; "refused {refusal}"),
     }
-    println!(rt;)
 }
 
 // "An empty shelf: present 0, sweeps 1"
@@ -124,36 +120,24 @@ fn empty_store(rt: &impl Print, weights: &[u8], buffer: &[u8]) -> io::Result<()>
             &mut list,
         ),
     )?;
-    print_bytes(rt, "file ", file)?;
-    print_bytes(rt, "marks ", marks)
+    println!(rt; "file {:08x}", u32::from_be_bytes(file))?;
+    println!(rt; "marks {:08x}", u32::from_be_bytes(marks))
 }
 
-// QR code blocks of 16 data and 10 check bytes. They are 0 at a^0 .. a^9, so their first 2 and 4 check sums are 0. The first is
-// the symbol of "01234567" in ISO/IEC 18004, Annex I; the second the message of Wikiversity's "Reed-Solomon codes for coders",
-// which has the check sums after the loss of its first byte too.
+// They are 0 at a^0 .. a^9, so their first 2 and 4 check sums are 0.
 fn published_words(rt: &impl Print) -> io::Result<()> {
-    let iso =
-        b"\x10\x20\x0C\x56\x61\x80\xEC\x11\xEC\x11\xEC\x11\xEC\x11\xEC\x11\xA5\x24\xD4\xC1\xED\x36\xC7\x87\x2C\x55";
-    let whole =
-        b"\x40\xD2\x75\x47\x76\x17\x32\x06\x27\x26\x96\xC6\xC6\x96\x70\xEC\xBC\x2A\x90\x13\x6B\xAF\xEF\xFD\x4B\xE0";
-    let lost =
-        b"\x00\xD2\x75\x47\x76\x17\x32\x06\x27\x26\x96\xC6\xC6\x96\x70\xEC\xBC\x2A\x90\x13\x6B\xAF\xEF\xFD\x4B\xE0";
-    print_sums(rt, "ISO/IEC 18004 word", iso)?;
-    print_sums(rt, "Wikiversity word", whole)?;
-    print_sums(rt, "Wikiversity word with its first byte 0", lost)
+    print_sums(rt, "ISO/IEC 18004 word", &ISO)?;
+    print_sums(rt, "Wikiversity word", &WIKIVERSITY)?;
+    let lost = after_loss(WIKIVERSITY, 1);
+    print_sums(rt, "Wikiversity word with its first byte 0", &lost)
 }
 
 // The first of these words, and the second after the loss of one byte, of two and of three.
 fn corrected_words(rt: &impl Print) -> io::Result<()> {
-    let iso =
-        b"\x10\x20\x0C\x56\x61\x80\xEC\x11\xEC\x11\xEC\x11\xEC\x11\xEC\x11\xA5\x24\xD4\xC1\xED\x36\xC7\x87\x2C\x55";
-    let one =
-        b"\x00\xD2\x75\x47\x76\x17\x32\x06\x27\x26\x96\xC6\xC6\x96\x70\xEC\xBC\x2A\x90\x13\x6B\xAF\xEF\xFD\x4B\xE0";
-    let two =
-        b"\x00\x00\x75\x47\x76\x17\x32\x06\x27\x26\x96\xC6\xC6\x96\x70\xEC\xBC\x2A\x90\x13\x6B\xAF\xEF\xFD\x4B\xE0";
-    let three =
-        b"\x00\x00\x00\x47\x76\x17\x32\x06\x27\x26\x96\xC6\xC6\x96\x70\xEC\xBC\x2A\x90\x13\x6B\xAF\xEF\xFD\x4B\xE0";
-    print_corrections(rt, "ISO/IEC 18004 word", iso)?;
+    let one = after_loss(WIKIVERSITY, 1);
+    let two = after_loss(WIKIVERSITY, 2);
+    let three = after_loss(WIKIVERSITY, 3);
+    print_corrections(rt, "ISO/IEC 18004 word", ISO)?;
     print_corrections(rt, "Wikiversity word with its first byte 0", one)?;
     print_corrections(rt, "Wikiversity word with its first two bytes 0", two)?;
     print_corrections(rt, "Wikiversity word with its first three bytes 0", three)
@@ -162,19 +146,15 @@ fn corrected_words(rt: &impl Print) -> io::Result<()> {
 // A read under the bench card: the droplet and how many bytes were wrong.
 fn print_read(rt: &impl Print, weights: &[u8], read: &[u8]) -> io::Result<()> {
     rt.write_all(read)?;
-    let answer = read_check::check_read(bench_card(), weights, read);
-    let outcome = answer.outcome;
-    let payload = answer.payload;
-    let first = payload[0];
-    let corrected = answer.corrected;
-    match outcome {
-        ReadOutcome::Droplet(seed) => {
-            print!(rt; ": seed {seed:08x} payload {first:02x}")?;
-            print_number(rt, " mended ", corrected as u64)?;
+    match read_check::check_read(bench_card(), weights, read) {
+        Ok(droplet) => {
+            println!(rt;
+                ": seed {:08x} payload {:02x} mended {}",
+                droplet.seed, droplet.payload[0], droplet.corrected
+            )
         }
-        ReadOutcome::Refused(n) => print_number(rt, ": refused ", n as u64)?,
+        Err(refusal) => println!(rt; ": refused {refusal}"),
     }
-    println!(rt;)
 }
 
 // The bench strand of seed 1, and with its first letter wrong, its last, and both.

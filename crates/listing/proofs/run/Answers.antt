@@ -19,16 +19,16 @@ weights-part bytes end e = let size : end - weights_start ≡ number_at 18 2 byt
 
 pub segment_count-k-requires : goal.segment_count-k-requires
 segment_count-k-requires g c =
-    let right = sizes _ _ _ (read _ c.read_card.ensures c.in-Accepted.is) in
+    let right = sizes _ _ _ (read _ c.read_card.ensures c.in-Ok.is) in
     (right.l-least, right.f-most)
 
 pub overflow_mul-k : goal.overflow_mul-k
 overflow_mul-k g c =
-    let right = sizes _ _ _ (read _ c.read_card.ensures c.in-Accepted.is) in
-    record { fits = rw c.segment_count-k.ensures (omega (arith, right.file-fills, right.f-most, right.l_most)) }
+    let right = sizes _ _ _ (read _ c.read_card.ensures c.in-Ok.is) in
+    record { fits = rw (c.segment_count-k.ensures, c.from.ensures) (omega (arith, right.file-fills, right.f-most, right.l_most)) }
 
 pub weights_end-requires : goal.weights_end-requires
-weights_end-requires g c = head-there _ (read _ c.read_card.ensures c.in-Accepted.is).long
+weights_end-requires g c = head-there _ (read _ c.read_card.ensures c.in-Ok.is).long
 
 pub slice_bounds-weights-count : goal.slice_bounds-weights-count
 slice_bounds-weights-count g c = omega (arith, c.weights_end.ensures.0, head-before-end c.args.bytes.now)
@@ -38,8 +38,8 @@ slice_bounds-weights-start g c = omega (arith, c.weights_end.ensures.0, head-bef
 
 pub slice_bounds-weights-end : goal.slice_bounds-weights-end
 slice_bounds-weights-end g c =
-    omega (arith, c.weights_end.ensures.0, (read _ c.read_card.ensures c.in-Accepted.is).long)
+    omega (arith, c.weights_end.ensures.0, (read _ c.read_card.ensures c.in-Ok.is).long)
 
 pub list_pool-requires : goal.list_pool-requires
 list_pool-requires g c =
-    (c.requires, rw (weights-part c.args.bytes.now _ c.weights_end.ensures.0) (read _ c.read_card.ensures c.in-Accepted.is).unrefused)
+    (c.requires, rw (weights-part c.args.bytes.now _ c.weights_end.ensures.0) (read _ c.read_card.ensures c.in-Ok.is).unrefused)

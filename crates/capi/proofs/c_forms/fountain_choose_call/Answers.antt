@@ -1,28 +1,23 @@
 -- `fountain_choose_call` meets its contract: the numbers of each of the three answers. Assumes nothing.
-use mathlib.Core.Path.{◌≡◌, sym, ap, ◌∙◌}
-use mathlib.Core.List.{List}
-use Prim.Native.Nat.{ℕ}
-use Rattle.droplet.specs.declared.card.Card.{Card}
-use Rattle.basecalls.specs.declared.choice.ChoiceAnswer.{ChoiceAnswer}
-use Rattle.basecalls.specs.TwoCallers.{choice_of, choose_call}
-use Rattle.capi.specs.CForms.{choice_returned}
+use Rattle.std.proofs.Common.{rules, ◌≡◌, List, [], ◌∷◌, ℕ, Result, Ok, Err, refl, ap, ◌∙◌}
+use Rattle.droplet.specs.declared.refusal.Refusal.{Refusal}
+use Rattle.basecalls.specs.declared.choice.Caller.{Caller}
+use Rattle.basecalls.specs.declared.choice.Caller.TheVariants.{First, Second}
+use Rattle.basecalls.specs.TwoCallers.{choice_of}
+use Rattle.capi.specs.CForms.{caller_number, choice_returned}
+use Rattle.capi.proofs.Numbers.{made, numbers-made}
 use Rattle.capi.proofs.c_forms.fountain_choose_call.Goals as goal
 
--- the numbers of an answer, under the card of what was handed
-formed : {card handed : Card} (weights call call' : List ℕ) {r r' : ChoiceAnswer} → card ≡ handed
-    → choice_of r ≡ choose_call card weights call call' → r ≡ r' → (answer : List ℕ)
-    → choice_returned answer (choice_of r') ≡ choice_returned answer (choose_call handed weights call call')
-formed weights call call' same found e answer =
-    ap (choice_returned answer) (sym (ap choice_of e) ∙ found ∙ ap (λ k. choose_call k weights call call') same)
+abbrev numbers : Caller → List ℕ
+numbers k = caller_number k ∷ []
 
-pub returns-in-Refused : goal.returns-in-Refused
+by_cases : (answer : List ℕ) (r : Result Caller Refusal) → made numbers answer r ≡ choice_returned answer (choice_of r)
 unfolding choice_returned
-returns-in-Refused c = formed _ _ _ c.handed_card-card.ensures c.choose_call.ensures c.in-Refused.is _
+by_cases answer (Ok First) = refl
+by_cases answer (Ok Second) = refl
+by_cases answer (Err q) = refl
 
-pub returns-in-First : goal.returns-in-First
-unfolding choice_returned
-returns-in-First c = formed _ _ _ c.handed_card-card.ensures c.choose_call.ensures c.in-First.is _
-
-pub returns-in-Second : goal.returns-in-Second
-unfolding choice_returned
-returns-in-Second c = formed _ _ _ c.handed_card-card.ensures c.choose_call.ensures c.in-Second.is _
+pub returns : goal.returns
+returns c = rw (← c.handed_card-card.ensures)
+    (c.answered.ensures ∙ numbers-made numbers _ _ _ c.map.ensures.cases (λ x ns e. e) ∙ by_cases _ _
+    ∙ ap (choice_returned _) c.choose_call-chosen.ensures)

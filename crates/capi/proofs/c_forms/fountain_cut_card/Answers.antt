@@ -1,25 +1,23 @@
--- `fountain_cut_card` meets its contract: the numbers of each of the card cutter's answers. Assumes nothing.
-use mathlib.Core.Path.{◌≡◌, ap, ◌∙◌}
-use mathlib.Core.List.{List}
-use Prim.Native.Nat.{ℕ}
-use Rattle.droplet.specs.declared.card.Card.{Card}
-use Rattle.droplet.specs.declared.card_cutter.CutAnswer.{CutAnswer}
-use Rattle.droplet.specs.CardCutter.{cut_answer, CutPromise}
-use Rattle.capi.specs.CForms.{returned, cut_returned, CutForm}
+-- `fountain_cut_card` meets its contract: the number of each of the card cutter's answers. Assumes nothing.
+use Rattle.std.proofs.Common.{rules, ◌≡◌, List, [], ◌∷◌, ℕ, Result, Ok, Err, refl, ap, ◌∙◌}
+use Rattle.droplet.specs.declared.refusal.Refusal.{Refusal}
+use Rattle.droplet.specs.CardCutter.{cut_answer}
+use Rattle.capi.specs.CForms.{cut_returned}
+use Rattle.capi.proofs.Numbers.{made, numbers-made}
 use Rattle.capi.proofs.c_forms.fountain_cut_card.Goals as goal
 
--- the answer's number, with the card cutter's own promise
-formed : {c c' : Card} {weights buffer : List ℕ} {r : CutAnswer} {buffer' : List ℕ} → c ≡ c' → CutPromise c weights buffer r buffer'
-    → (answer : List ℕ) (n : ℕ) (answer' : List ℕ) → returned n answer' ≡ cut_returned answer (cut_answer r)
-    → CutForm c' weights buffer answer n buffer' answer'
-formed same p answer n answer' e = rw (← same) (record { returns = e ∙ ap (cut_returned answer) p.says; leaves = p.leaves })
+abbrev numbers : ℕ → List ℕ
+numbers n = n ∷ []
 
-pub returns-in-Refused : goal.returns-in-Refused
+by_cases : (answer : List ℕ) (r : Result ℕ Refusal) → made numbers answer r ≡ cut_returned answer (cut_answer r)
 unfolding cut_returned
-returns-in-Refused c =
-    formed c.handed_card-card.ensures c.cut_card.ensures _ _ _ (rw c.in-Refused.is)
+by_cases answer (Ok x) = refl
+by_cases answer (Err q) = refl
 
-pub returns-in-Cut : goal.returns-in-Cut
-unfolding cut_returned
-returns-in-Cut c =
-    formed c.handed_card-card.ensures c.cut_card.ensures _ _ _ (rw c.in-Cut.is)
+pub returns : goal.returns
+returns c = rw (← c.handed_card-card.ensures) (record {
+  returns =
+      c.answered.ensures ∙ numbers-made numbers _ _ _ c.map.ensures.cases (λ x ns e. e) ∙ by_cases _ _
+      ∙ ap (cut_returned _) c.cut_card-cut.ensures.says;
+  leaves = c.cut_card-cut.ensures.leaves;
+})

@@ -1,26 +1,24 @@
 -- `fountain_write` meets its contract: the numbers of each of the writer's answers. Assumes nothing.
-use mathlib.Core.Path.{◌≡◌, ap, ◌∙◌}
-use mathlib.Core.List.{List}
-use Prim.Native.Nat.{ℕ}
-use Rattle.droplet.specs.declared.card.Card.{Card}
-use Rattle.strand.specs.declared.writer.WriteAnswer.{WriteAnswer}
-use Rattle.strand.specs.Writer.{write_answer, WriterPromise}
-use Rattle.capi.specs.CForms.{returned, write_returned, WriteForm}
+use Rattle.std.proofs.Common.{rules, ◌≡◌, List, [], ◌∷◌, ℕ, Result, Ok, Err, refl, ap, ◌∙◌}
+use Rattle.droplet.specs.declared.refusal.Refusal.{Refusal}
+use Rattle.strand.specs.declared.writer.Run.{Run}
+use Rattle.strand.specs.Writer.{write_answer}
+use Rattle.capi.specs.CForms.{stop_number, write_returned}
+use Rattle.capi.proofs.Numbers.{made, numbers-made}
 use Rattle.capi.proofs.c_forms.fountain_write.Goals as goal
 
--- the answer's numbers, with what the writer leaves
-formed : {c c' : Card} {weights file : List ℕ} {start wanted budget : ℕ} {out list : List ℕ} {r : WriteAnswer} {out' list' : List ℕ}
-    → c ≡ c' → WriterPromise c weights file start wanted budget out list r out' list'
-    → (answer : List ℕ) (n : ℕ) (answer' : List ℕ) → returned n answer' ≡ write_returned answer (write_answer r)
-    → WriteForm c' weights file start wanted budget out list answer n out' list' answer'
-formed same p answer n answer' e = rw (← same) (record { returns = e ∙ ap (write_returned answer) p.says; leaves = p.leaves })
+abbrev numbers : Run → List ℕ
+numbers r = stop_number r.stop ∷ r.made ∷ r.tried ∷ r.next ∷ r.dropped_run ∷ r.dropped_gc ∷ []
 
-pub returns-in-Refused : goal.returns-in-Refused
+by_cases : (answer : List ℕ) (r : Result Run Refusal) → made numbers answer r ≡ write_returned answer (write_answer r)
 unfolding write_returned
-returns-in-Refused c =
-    formed c.handed_card-card.ensures c.write_strands.ensures _ _ _ (rw c.in-Refused.is)
+by_cases answer (Ok x) = refl
+by_cases answer (Err q) = refl
 
-pub returns-in-Written : goal.returns-in-Written
-unfolding write_returned
-returns-in-Written c =
-    formed c.handed_card-card.ensures c.write_strands.ensures _ _ _ (rw (c.in-Written.is, c.stop_number.ensures))
+pub returns : goal.returns
+returns c = rw (← c.handed_card-card.ensures) (record {
+  returns =
+      c.answered.ensures ∙ numbers-made numbers _ _ _ c.map.ensures.cases (λ x ns e. e) ∙ by_cases _ _
+      ∙ ap (write_returned _) c.write_strands-written.ensures.says;
+  leaves = c.write_strands-written.ensures.leaves;
+})

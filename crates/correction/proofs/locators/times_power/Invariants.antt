@@ -1,10 +1,7 @@
--- `times_power` meets its contract: as many doublings as are left make the power of what stands. Assumes nothing.
-use mathlib.Core.Path.{◌≡◌}
+-- `times_power` meets its contract: what stands is the power of the number of turns so far. Assumes nothing.
+use Rattle.std.proofs.Common.{◌≡◌}
 use Rattle.field.specs.CheckBytes.{times_power}
 use Rattle.correction.proofs.locators.times_power.Given as goal
 
-abbrev pub invariant-loop-left : goal.invariant-loop-left
-invariant-loop-left l = times_power l.left l.y ≡ times_power l.k l.x
-
-abbrev pub decreases-loop-left : goal.decreases-loop-left
-decreases-loop-left l = l.left
+abbrev pub invariant-loop : goal.invariant-loop
+invariant-loop l = l.y ≡ times_power l.counter l.x

@@ -1,76 +1,65 @@
 -- `put_record` meets its contract: the seed, behind it payload and state, and behind them the count. Assumes nothing.
-use mathlib.Core.Path.{◌≡◌, sym, ◌∙◌}
-use mathlib.Core.Bool.{Bool}
-use mathlib.Core.List.{List, ◌++◌, append_assoc}
-use Prim.Native.Nat.{ℕ, ◌+◌, ◌-◌, ◌≤◌}
-use native.Mathlib.Omega.{arith}
-use lib.ListN.{length, take, drop, length-append, length-drop}
+use Rattle.std.proofs.Common.{◌≡◌, Bool, List, ◌++◌, ℕ, ◌+◌, ◌-◌, ◌≤◌, length, take, drop, length-append, length-drop, append_assoc, sym, ◌∙◌, arith}
 use lib.Seq.{take_at, drop_at, drop-drop}
 use Rattle.field.specs.Bytes.{to_big_endian}
-use Rattle.field.proofs.BigEndian.{to-length}
+use Rattle.field.proofs.BigEndian.{to-length, to_be-big_endian}
 use Rattle.field.proofs.LentParts.{put_back}
 use Rattle.decoder.specs.Store.{record_bytes, evidence_text, record_text, count_place, overwritten}
-use Rattle.decoder.proofs.RecordBytes.{parts-fit, evidence-length}
-use borrow.Author.Rules.{rules}
+use Rattle.decoder.proofs.RecordBytes.{evidence-length}
 use Rattle.decoder.proofs.records.put_record.Goals as goal
 
 module _ (seed : ℕ) (payload : List ℕ) (clean : Bool) (out : List ℕ) where
   abbrev new : List ℕ
   new = evidence_text payload clean
 
-  -- the seed was written, and the part from 4 on came back as `part`
-  put : (once part four : List ℕ) → four ≡ to_big_endian seed → once ≡ four ++ drop (length four) out
-      → part ≡ new ++ drop (length payload + 1) (take (length once - 4) (drop 4 once))
-      → take 4 once ++ (part ++ drop (length once - 4) (drop 4 once)) ≡ (to_big_endian seed ++ new) ++ drop (5 + length payload) out
-  put once part four e f g =
-      let size : length new ≡ length payload + 1 = evidence-length payload clean in
-      let width : 4 + length new ≡ 5 + length payload = omega (arith, size) in
-      put_back (to_big_endian seed) new out once part 4 (to-length seed) (rw (e, to-length seed) at f) (rw size g)
-      ∙ rw width (sym (append_assoc (to_big_endian seed) new (drop (5 + length payload) out)))
+  abbrev front : List ℕ
+  front = to_big_endian seed ++ new
 
-  front-size : length (to_big_endian seed ++ new) ≡ 5 + length payload
+  abbrev size : ℕ
+  size = 5 + length payload
+
+  front-size : length front ≡ size
   front-size = rw (length-append, to-length seed, evidence-length payload clean) (omega arith)
 
+  -- the seed was written, and the part from 4 on came back as `part`
+  put : (once part : List ℕ) → once ≡ to_big_endian seed ++ drop (length (to_big_endian seed)) out
+      → part ≡ new ++ drop (length payload + 1) (take (length once - 4) (drop 4 once))
+      → take 4 once ++ (part ++ drop (length once - 4) (drop 4 once)) ≡ front ++ drop size out
+  put once part f g =
+      let long = evidence-length payload clean in
+      let width : 4 + length new ≡ size = omega (arith, long) in
+      put_back (to_big_endian seed) new out once part 4 (to-length seed) (rw (to-length seed) at f) (rw long g)
+      ∙ rw width (sym (append_assoc (to_big_endian seed) new (drop size out)))
+
   -- no byte more or less
-  room : record_bytes (length payload) ≤ length out → 0 + record_bytes (length payload) ≤ length ((to_big_endian seed ++ new) ++ drop (5 + length payload) out)
-  room h = rw (length-append (to_big_endian seed ++ new) (drop (5 + length payload) out), front-size, length-drop) (omega (arith, parts-fit (length payload)))
+  room : record_bytes (length payload) ≤ length out → 0 + record_bytes (length payload) ≤ length (front ++ drop size out)
+  unfolding record_bytes
+  room h = rw (length-append front (drop size out), front-size, length-drop) (omega arith)
 
   -- and then the count
-  counted : (twice : List ℕ) → twice ≡ (to_big_endian seed ++ new) ++ drop (5 + length payload) out
+  counted : (twice : List ℕ) → twice ≡ front ++ drop size out
       → overwritten (count_place (length payload) 0) (to_big_endian 1) twice
       ≡ record_text (record { read = record { seed = seed; payload = payload; clean = clean }; count = 1 }) ++ drop (record_bytes (length payload)) out
   unfolding overwritten record_text record_bytes
   counted twice e =
-      let front = to_big_endian seed ++ new in
-      let n = 5 + length payload in
-      let from : 0 + n ≡ n = omega arith in
-      let width : n + 4 ≡ 9 + length payload = omega arith in
-      rw (e, from, to-length 1, take_at front (drop n out) n front-size, ← drop-drop 4 n (front ++ drop n out), drop_at front (drop n out) n front-size, drop-drop 4 n out, width)
+      let from : 0 + size ≡ size = omega arith in
+      let width : size + 4 ≡ 9 + length payload = omega arith in
+      rw (e, from, to-length 1, take_at front (drop size out) size front-size, ← drop-drop 4 size (front ++ drop size out), drop_at front (drop size out) size front-size, drop-drop 4 size out, width)
       (simp append_assoc)
-
-pub copy-requires : goal.copy-requires
-copy-requires c = let fits = parts-fit (length c.args.payload.now) in search rules
-
-pub slice_bounds-put_evidence-count : goal.slice_bounds-put_evidence-count
-slice_bounds-put_evidence-count c = let fits = parts-fit (length c.args.payload.now) in search rules
-
-pub slice_bounds-put_evidence-start : goal.slice_bounds-put_evidence-start
-slice_bounds-put_evidence-start c = let fits = parts-fit (length c.args.payload.now) in search rules
-
-pub put_evidence-requires : goal.put_evidence-requires
-put_evidence-requires c = let fits = parts-fit (length c.args.payload.now) in search rules
 
 pub put_count-requires : goal.put_count-requires
 put_count-requires c =
-    let args = c.args in (
+    let args = c.args in
+    let four = c.to_be_bytes.ensures ∙ to_be-big_endian args.seed in (
       c.requires.0,
-      rw (put args.seed args.payload.now args.clean args.out.now _ _ _ c.split.ensures c.copy.ensures c.put_evidence.ensures)
+      rw (put args.seed args.payload.now args.clean args.out.now _ _ (rw four at c.copy.ensures) c.put_evidence.ensures)
           (room args.seed args.payload.now args.clean args.out.now c.requires.1),
     )
 
 pub returns : goal.returns
 returns c =
     let args = c.args in
+    let four = c.to_be_bytes.ensures ∙ to_be-big_endian args.seed in
     c.put_count.ensures
     ∙ counted args.seed args.payload.now args.clean args.out.now _
-    (put args.seed args.payload.now args.clean args.out.now _ _ _ c.split.ensures c.copy.ensures c.put_evidence.ensures)
+    (put args.seed args.payload.now args.clean args.out.now _ _ (rw four at c.copy.ensures) c.put_evidence.ensures)

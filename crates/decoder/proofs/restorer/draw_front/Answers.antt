@@ -1,18 +1,17 @@
 -- `draw_front`: a turn draws one segment, by `Picking`, and looks at its mark, by `Unmarked`. Assumes nothing.
-use mathlib.Core.Path.{◌≡◌, refl, sym, ap, ◌∙◌}
+use mathlib.Core.Path.{◌≡◌, refl}
 use mathlib.Core.List.{List}
-use Prim.Native.Nat.{ℕ, ◌+◌, ◌<◌}
+use Prim.Native.Nat.{ℕ, ◌+◌, ◌-◌, ◌<◌}
 use native.Mathlib.Omega.{arith}
 use lib.ListN.{length, get_or, take, set}
 use Rattle.field.specs.Generator.{number_drawn}
 use Rattle.droplet.proofs.Picking.{take_more, picking-begins, picking-turns}
-use Rattle.droplet.proofs.Bitmap.{marked_more, with-length}
+use Rattle.droplet.proofs.Bitmap.{marked_more}
 use Rattle.decoder.specs.declared.restorer.Unmarked.{Unmarked}
 use Rattle.decoder.specs.Restorer.{missing}
 use Rattle.decoder.specs.Loops.{unmarked_of, looked_at}
 use Rattle.decoder.proofs.DrawnFront.{joins-most, looked-several, looked-all}
 use Rattle.decoder.proofs.Unmarked.{looked-more}
-use borrow.Author.Rules.{rules}
 use Rattle.decoder.proofs.restorer.draw_front.Goals as goal
 
 -- once the mark of the segment that joins is looked at, what is found is right of one segment more
@@ -22,35 +21,34 @@ looked marks list i s h now e = rw (take_more list i s h) (looked-more marks (ta
 
 pub loop-i-init : goal.loop-i-init
 unfolding missing unmarked_of
-loop-i-init c = (search rules, picking-begins _ _ _ _, refl, c.requires.5, refl)
+loop-i-init c = (picking-begins _ _ _ _, c.requires.5, refl)
 
-pub bounds-marks-m : goal.bounds-marks-m
-bounds-marks-m c =
+pub joining_segment-s-requires : goal.joining_segment-s-requires
+joining_segment-s-requires c = (omega arith, c.loop-i.invariant.1)
+
+pub bounds-marks-s : goal.bounds-marks-s
+bounds-marks-s c =
     let l = c.loop-i in
-    omega (arith, c.joining_segment-s.ensures, joins-most (take l.i l.list) l.j (number_drawn c.next-state.result))
+    omega (arith, c.joining_segment-s.ensures, joins-most (take l.i l.list) (c.args.k - c.args.d + l.i) (number_drawn c.next-state.result))
 
 pub returns-in-Several : goal.returns-in-Several
 returns-in-Several c =
     let x = c.args in
     let l = c.loop-i in
-    let turned = picking-turns _ _ _ _ _ _ _ _ l.invariant.1 _ _ _ (omega arith) (omega arith) c.next-state.ensures refl c.joining_segment-s.ensures in
-    let found = looked x.marks.now l.list l.i _ (omega arith) l.invariant.2 c.look_at-next.ensures in
-    looked-several x.k x.d x.state x.list.now _ _ _ _ turned (omega arith) x.n (omega arith) (omega arith) _ (sym found ∙ c.in-Several.is)
+    let turned = picking-turns _ _ _ _ _ _ _ l.invariant.0 _ _ _ c.requires.3 (omega arith) c.next-state.ensures refl c.joining_segment-s.ensures in
+    let found = looked x.marks.now l.list l.i _ (omega arith) l.invariant.2 c.look_at-found.ensures in
+    looked-several x.k x.d x.state x.list.now _ _ _ turned c.requires.3 x.n (omega arith) c.requires.2 _ _ found c.in-Several.is
 
 pub loop-i-preserved : goal.loop-i-preserved
 loop-i-preserved c =
-    let l = c.loop-i in
-    let pre = c.requires in
-    let found = looked c.args.marks.now l.list l.i _ (omega arith) l.invariant.2 c.look_at-next.ensures in (
-      omega arith,
-      picking-turns _ _ _ _ _ _ _ _ l.invariant.1 _ _ _ (omega arith) (omega arith) c.next-state.ensures refl c.joining_segment-s.ensures,
-      found,
-      marked_more l.words _ l.list l.i _ c.mark.ensures (omega (arith, l.invariant.1.long, c.loop-i-test.true, pre.2, pre.3)) l.invariant.3,
-      ap length c.mark.ensures ∙ with-length _ _ ∙ l.invariant.4,
+    let l = c.loop-i in (
+      picking-turns _ _ _ _ _ _ _ l.invariant.0 _ _ _ c.requires.3 (omega arith) c.next-state.ensures refl c.joining_segment-s.ensures,
+      marked_more l.words _ l.list l.i _ c.mark.ensures (omega arith) l.invariant.1,
+      looked c.args.marks.now l.list l.i _ (omega arith) l.invariant.2 c.look_at-found.ensures,
     )
 
 pub returns : goal.returns
 returns c =
     let x = c.args in
-    looked-all x.k x.d x.state x.list.now _ _ _ _ c.loop-i.invariant.1 (omega arith) x.n (omega arith) (omega arith) _
+    looked-all x.k x.d x.state x.list.now _ _ _ c.loop-i.invariant.0 c.requires.3 x.n (omega arith) c.requires.2 _
     (omega arith) _ c.loop-i.invariant.2

@@ -1,7 +1,6 @@
 -- `draw_front`: the loop is that of `Picking`, with a bitmap of what has joined and a look at each mark. Assumes nothing.
 use mathlib.Core.Path.{◌≡◌}
-use Prim.Native.Nat.{◌-◌, ◌≤◌}
-use lib.ListN.{length, take}
+use lib.ListN.{take}
 use Rattle.droplet.specs.Loops.{Marked}
 use Rattle.droplet.proofs.Picking.{Picking}
 use Rattle.decoder.specs.Restorer.{missing}
@@ -10,9 +9,5 @@ use Rattle.decoder.proofs.restorer.draw_front.Given as goal
 
 abbrev pub invariant-loop-i : goal.invariant-loop-i
 invariant-loop-i l =
-    (l.i ≤ l.n) × Picking l.k l.d l.initial.state l.initial.list l.state l.list l.j l.i
-    × (l.found ≡ unmarked_of (missing l.marks (take l.i l.list))) × Marked l.words (take l.i l.list)
-    × (length l.words ≡ length l.initial.words)
-
-abbrev pub decreases-loop-i : goal.decreases-loop-i
-decreases-loop-i l = l.n - l.i
+    Picking l.k l.d l.initial.state l.initial.list l.state l.list l.i × Marked l.words (take l.i l.list)
+    × (l.found ≡ unmarked_of (missing l.marks (take l.i l.list)))

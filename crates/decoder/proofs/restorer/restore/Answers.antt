@@ -1,36 +1,50 @@
 -- `restore` meets its contract: refused by the card, by a later question, or answered. Assumes nothing.
-use mathlib.Core.Path.{sym, ◌∙◌}
+use mathlib.Core.Path.{refl}
 use native.Mathlib.Omega.{arith}
 use Rattle.droplet.proofs.CardAnswers.{passed, stopped}
-use Rattle.decoder.proofs.RestoreAnswers.{card-refused, later-refused, records-fit, room, restored-promise}
+use Rattle.droplet.proofs.Refusals.{handed_on}
+use Rattle.decoder.proofs.RestoreAnswers.{card-refused, later-refused, records-fit, pickable, room, restored-promise}
 use Rattle.decoder.proofs.restorer.restore.Goals as goal
 
-pub later_refusal-n-requires : goal.later_refusal-n-requires
-later_refusal-n-requires c =
-    let p = passed _ _ c.check_plan.ensures c.in-Ready.is in
+pub ask_later-requires : goal.ask_later-requires
+ask_later-requires c =
+    let p = passed _ _ c.check_plan.ensures c.in_ok-plan.was in
     (p.legal.sizes.l_most, omega (arith, p.segments, p.legal.sizes.segments-most))
 
-pub returns-then-n-ne0 : goal.returns-then-n-ne0
-returns-then-n-ne0 c =
+pub invariant_of-pool : goal.invariant_of-pool
+invariant_of-pool c =
     let x = c.args in
-    let p = passed _ _ c.check_plan.ensures c.in-Ready.is in
-    later-refused _ _ _ _ x.file.now x.marks.now x.list.now _ p _ c.later_refusal-n.ensures c.if-n-ne0.true
+    let p = passed _ _ c.check_plan.ensures c.in_ok-plan.was in
+    record { pickable = pickable _ _ x.store.now x.count x.file.now x.marks.now x.list.now _ p c.in_ok-ask_later.ensures }
+
+pub first_records-requires : goal.first_records-requires
+first_records-requires c =
+    let x = c.args in
+    let p = passed _ _ c.check_plan.ensures c.in_ok-plan.was in
+    (p.legal.sizes.l_most, records-fit _ _ x.store.now x.count x.file.now x.marks.now x.list.now _ p c.in_ok-ask_later.ensures)
 
 pub make_sheet-requires : goal.make_sheet-requires
 make_sheet-requires c =
     let x = c.args in
-    let p = passed _ _ c.check_plan.ensures c.in-Ready.is in
-    let fine = sym c.if-n-ne0.false ∙ c.later_refusal-n.ensures in
-    (records-fit _ _ x.store.now _ x.file.now x.marks.now x.list.now _ p fine, room _ _ x.store.now _ x.file.now x.marks.now x.list.now _ p fine)
+    let p = passed _ _ c.check_plan.ensures c.in_ok-plan.was in
+    room _ _ x.store.now x.count x.file.now x.marks.now x.list.now _ p c.in_ok-ask_later.ensures _ refl refl refl
 
-pub returns-in-Refused : goal.returns-in-Refused
-returns-in-Refused c =
+pub returns-in_err-plan : goal.returns-in_err-plan
+returns-in_err-plan c =
     let x = c.args in
-    card-refused _ _ _ _ x.file.now x.marks.now x.list.now _ (stopped _ _ c.check_plan.ensures c.in-Refused.is)
+    rw (handed_on _ _ c.from_residual.ensures.1)
+    (card-refused _ _ _ _ x.file.now x.marks.now x.list.now _ (stopped _ _ c.check_plan.ensures c.in_err-plan.was))
 
-pub returns-else-n-ne0 : goal.returns-else-n-ne0
-returns-else-n-ne0 c =
+pub returns-in_err-ask_later : goal.returns-in_err-ask_later
+returns-in_err-ask_later c =
     let x = c.args in
-    let p = passed _ _ c.check_plan.ensures c.in-Ready.is in
-    let fine = sym c.if-n-ne0.false ∙ c.later_refusal-n.ensures in
-    restored-promise _ _ x.store.now _ x.file.now x.marks.now x.list.now _ p fine _ _ _ _ c.make_sheet.ensures
+    let p = passed _ _ c.check_plan.ensures c.in_ok-plan.was in
+    rw (handed_on _ _ c.from_residual-in_err-ask_later.ensures.1)
+    (later-refused _ _ _ _ x.file.now x.marks.now x.list.now _ p _ c.in_err-ask_later.ensures)
+
+pub returns : goal.returns
+returns c =
+    let x = c.args in
+    let p = passed _ _ c.check_plan.ensures c.in_ok-plan.was in
+    restored-promise _ _ x.store.now _ x.file.now x.marks.now x.list.now _ p c.in_ok-ask_later.ensures _ refl refl refl _ _ _ _ _
+    c.first_records.ensures c.make_sheet.ensures

@@ -9,11 +9,12 @@ use native.Mathlib.Omega.{arith}
 use borrow.Author.Tests.{le-leb, lt-leb}
 use lib.ListN.{length, take, drop, length-take, drop_of_length-le}
 use lib.Seq.{drop-drop}
-use Rattle.decoder.specs.declared.store.StoreAnswer.TheVariants.{Accepted, Refused}
+use Rattle.std.proofs.Common.{Ok, Err}
+use Rattle.droplet.specs.declared.refusal.Refusal.TheVariants.{NoSpace}
+use Rattle.decoder.specs.declared.store.StoreAnswer.TheVariants.{Accepted}
 use Rattle.decoder.specs.Store.{Record, record_bytes, record_text, accepted, overwritten, appended}
 use Rattle.decoder.specs.StoreLoops.{Keeps}
 use Rattle.decoder.proofs.RecordBytes.{parts-fit, text-size}
-use borrow.Author.Rules.{rules}
 use Rattle.decoder.proofs.store.append.Goals as goal
 
 module _ (buffer : List ℕ) (count seed : ℕ) (payload : List ℕ) (clean : Bool) (width : ℕ) (wide : width ≡ record_bytes (length payload)) where
@@ -23,7 +24,7 @@ module _ (buffer : List ℕ) (count seed : ℕ) (payload : List ℕ) (clean : Bo
   abbrev new : Record
   new = record { read = record { seed = seed; payload = payload; clean = clean }; count = 1 }
 
-  full : length buffer - at < width → Keeps (appended (length payload) buffer count new.read) (Refused 16) buffer
+  full : length buffer - at < width → Keeps (appended (length payload) buffer count new.read) (Err NoSpace) buffer
   unfolding appended
   full h =
       let less : length buffer < suc count * record_bytes (length payload) = rw (← wide, suc-mul) (omega arith) in
@@ -35,7 +36,7 @@ module _ (buffer : List ℕ) (count seed : ℕ) (payload : List ℕ) (clean : Bo
 
   more : (part : List ℕ) → width ≤ length buffer - at
       → part ≡ record_text new ++ drop (record_bytes (length payload)) (take lent (drop at buffer))
-      → Keeps (appended (length payload) buffer count new.read) (Accepted (count + 1)) (take at buffer ++ (part ++ drop lent (drop at buffer)))
+      → Keeps (appended (length payload) buffer count new.read) (Ok (Accepted (count + 1))) (take at buffer ++ (part ++ drop lent (drop at buffer)))
   unfolding appended overwritten
   more part h e =
       let size : lent ≡ width = omega arith in
@@ -51,31 +52,16 @@ module _ (buffer : List ℕ) (count seed : ℕ) (payload : List ℕ) (clean : Bo
 pub returns-then-store-at : goal.returns-then-store-at
 returns-then-store-at c =
     let args = c.args in
-    full args.store.now args.count args.seed args.payload.now args.clean _ c.record_bytes-width.ensures (omega arith)
-
--- the records so far, by the one function
-fits : (L count n : ℕ) (buffer : List ℕ) → n ≡ record_bytes L → count * record_bytes L ≤ length buffer → count * n ≤ length buffer
-fits L count n buffer wide h = rw wide h
-
-pub overflow_mul-at : goal.overflow_mul-at
-overflow_mul-at c = let h = fits _ c.args.count _ c.args.store.now c.record_bytes-width.ensures c.requires.fits in omega arith
-
-pub overflow_add-end : goal.overflow_add-end
-overflow_add-end c = let h = fits _ c.args.count _ c.args.store.now c.record_bytes-width.ensures c.requires.fits in omega arith
-
-pub slice_bounds-put_record-end : goal.slice_bounds-put_record-end
-slice_bounds-put_record-end c = let h = fits _ c.args.count _ c.args.store.now c.record_bytes-width.ensures c.requires.fits in omega arith
+    full args.store.now args.count args.read.seed args.read.payload.now args.read.clean _ c.record_bytes-width.ensures (omega arith)
 
 -- there are no more records than bytes
 pub overflow_add-result : goal.overflow_add-result
 overflow_add-result c =
     let args = c.args in
-    let h = fits _ args.count _ args.store.now c.record_bytes-width.ensures c.requires.fits in
-    let least : 1 ≤ c.record_bytes-width.result = omega (arith, c.record_bytes-width.ensures, parts-fit (length args.payload.now)) in
-    let few = mul-le-mul_left args.count least in
-    search rules
+    let least : 1 ≤ record_bytes (length args.read.payload.now) = omega (arith, parts-fit (length args.read.payload.now)) in
+    omega (arith, c.requires.fits, mul-le-mul_left args.count least)
 
 pub returns : goal.returns
 returns c =
     let args = c.args in
-    more args.store.now args.count args.seed args.payload.now args.clean _ c.record_bytes-width.ensures _ (omega arith) c.put_record.ensures
+    more args.store.now args.count args.read.seed args.read.payload.now args.read.clean _ c.record_bytes-width.ensures _ (omega arith) c.put_record.ensures

@@ -1,15 +1,11 @@
 -- `count_fits` meets its contract: a number is within a quotient just where its product is within the dividend. Assumes nothing.
-use mathlib.Core.Path.{◌≡◌}
-use Prim.Native.Nat.{ℕ, ◌*◌, ◌/◌, ◌<◌}
+use Rattle.std.proofs.Common.{◌≡◌, ℕ, ◌*◌, ◌/◌, ◌<◌, length, le-leb, arith}
+use Rattle.std.proofs.lemmas.Bool.{lt-leb}
 use native.Mathlib.Nat.{le-div_iff_mul-le, div-lt_iff_lt-mul}
 use native.Mathlib.Decide.{dec_le}
-use native.Mathlib.Omega.{arith}
-use borrow.Author.Tests.{le-leb, lt-leb}
 use lib.Dec.{leb}
-use lib.ListN.{length}
 use Rattle.decoder.specs.Store.{record_bytes}
 use Rattle.decoder.proofs.RecordBytes.{parts-fit}
-use borrow.Author.Rules.{rules}
 use Rattle.decoder.proofs.store.count_fits.Goals as goal
 
 within-quotient : (count width size : ℕ) → 0 < width → leb count (size / width) ≡ leb (count * width) size
@@ -22,7 +18,7 @@ within-quotient count width size h =
     ]
 
 pub nonzero_div-result : goal.nonzero_div-result
-nonzero_div-result c = let wide = c.record_bytes.ensures in let parts = parts-fit c.args.l in search rules
+nonzero_div-result c = omega (arith, c.record_bytes.ensures, parts-fit c.args.l)
 
 pub returns : goal.returns
 returns c =

@@ -1,53 +1,35 @@
--- `well_formed` meets its contract: a card shorter than its head, or than its third field says, is none. Assumes nothing.
-use mathlib.Core.Path.{◌≡◌, refl, sym, ◌∙◌}
-use mathlib.Core.Bool.{true, false}
-use mathlib.Core.List.{List}
-use mathlib.Core.Logic.{inl, inr}
-use Prim.Native.Nat.{ℕ, ◌-◌, ◌%◌, ◌≤◌, ◌<◌}
-use native.Mathlib.Omega.{arith}
-use lib.Dec.{eqb}
-use lib.ListN.{length}
-use Rattle.field.specs.Bytes.{same_bytes}
-use Rattle.field.proofs.Tests.{either}
-use Rattle.droplet.specs.PoolCard.{card_bytes, weights_start, weights_end, card_numbers, card_weights, well_formed}
-use Rattle.droplet.proofs.Conjunctions.{and_then, and-else}
-use Rattle.droplet.proofs.CardBytes.{well-formed-long, head-before-end, head-there, weights-length}
+-- `well_formed` meets its contract: a card shorter than its head, or than its third field says, is none, and of others the parts decide.
+-- Assumes nothing.
+use Rattle.std.proofs.Common.{◌∙◌, sym, eq-eqb, ne_eqb}
+use Rattle.droplet.proofs.CardParts.{too_short, cut_off, has-ends, lent-weights, formed}
+use Rattle.droplet.proofs.card.well_formed.Goals.{else-is_card-via-then-is_card+else-weights-eq0, else-is_card-via-else-is_card}
 use Rattle.droplet.proofs.card.well_formed.Goals as goal
 
-module _ (card : List ℕ) where
-  no : (well_formed card ≡ true → ⊥) → false ≡ well_formed card
-  no h = elim (either (well_formed card)) [ inl e ↦ absurd (h e) | inr e ↦ sym e ]
+pub returns-in_err-head : goal.returns-in_err-head
+returns-in_err-head c = rw c.from_residual.ensures (too_short _ c.in_err-head.ensures.cases)
 
-  too_short : length card < weights_start → false ≡ well_formed card
-  too_short h = no (λ w. let z : ⊥ = omega (arith, head-there card (well-formed-long card w)) in z)
+pub returns-in_err-weights : goal.returns-in_err-weights
+returns-in_err-weights c =
+    rw c.from_residual-in_err-weights.ensures
+    (cut_off _ _ _ c.in_ok-head.ensures.cases _ (c.from.ensures ∙ c.two_bytes.ensures) c.in_err-weights.ensures.cases)
 
-  module _ (end : ℕ) (e : end ≡ weights_end card) where
-    cut_off : length card < end → false ≡ well_formed card
-    cut_off h = no (λ w. let z : ⊥ = omega (arith, e, well-formed-long card w) in z)
+pub returns-then-weights-eq0 : goal.returns-then-weights-eq0
+returns-then-weights-eq0 c =
+    let ends = has-ends _ _ _ c.in_ok-head.ensures.cases _ (c.from.ensures ∙ c.two_bytes.ensures) _ _ c.in_ok-weights.ensures.cases in
+    let lent = lent-weights _ _ _ c.in_ok-head.ensures.cases _ (c.from.ensures ∙ c.two_bytes.ensures) _ _ c.in_ok-weights.ensures.cases in
+    let numbers = c.card_numbers-card.ensures _ ends in
+    record {
+      formed = sym (formed _ _ _ _ _ ends lent numbers) ∙ rw (sym c.is_card.ensures ∙ c.if-is_card.true, eq-eqb _ 0 c.if-weights-eq0.true);
+      numbers = numbers;
+      lent = lent;
+    }
 
-    by_four : end ≤ length card → eqb ((end - weights_start) % 4) 0 ≡ eqb (length (card_weights card) % 4) 0
-    by_four h = rw (e, weights-length card (omega (arith, e)))
-
-pub returns-then-bytes-lt20 : goal.returns-then-bytes-lt20
-returns-then-bytes-lt20 c = too_short _ c.if-bytes-lt20.true
-
-pub returns-then-bytes-end : goal.returns-then-bytes-end
-returns-then-bytes-end c = cut_off _ _ c.weights_end-end.ensures.0 c.if-bytes-end.true
-
-pub overflow_sub-result : goal.overflow_sub-result
-overflow_sub-result c = omega (arith, head-before-end c.args.bytes.now, c.weights_end-end.ensures.0)
-
--- the bytes are compared with the card of their own numbers
-pub returns-then-is_card : goal.returns-then-is_card
-unfolding well_formed
-returns-then-is_card c =
-    let own : c.is_card.result ≡ same_bytes c.args.bytes.now (card_bytes (card_numbers c.args.bytes.now) (card_weights c.args.bytes.now))
-    = c.is_card.ensures ∙ rw c.card_numbers.ensures in
-    and_then own c.if-is_card.true (by_four _ _ c.weights_end-end.ensures.0 c.if-bytes-end.false)
-
-pub returns-else-is_card : goal.returns-else-is_card
-unfolding well_formed
-returns-else-is_card c =
-    let own : c.is_card.result ≡ same_bytes c.args.bytes.now (card_bytes (card_numbers c.args.bytes.now) (card_weights c.args.bytes.now))
-    = c.is_card.ensures ∙ rw c.card_numbers.ensures in
-    and-else _ own c.if-is_card.false refl
+pub returns : goal.returns
+returns c =
+    let ends = has-ends _ _ _ c.in_ok-head.ensures.cases _ (c.from.ensures ∙ c.two_bytes.ensures) _ _ c.in_ok-weights.ensures.cases in
+    let lent = lent-weights _ _ _ c.in_ok-head.ensures.cases _ (c.from.ensures ∙ c.two_bytes.ensures) _ _ c.in_ok-weights.ensures.cases in
+    let numbers = c.card_numbers-card.ensures _ ends in
+    sym (formed _ _ _ _ _ ends lent numbers) ∙ elim c.else-is_card.branch [
+      | else-is_card-via-then-is_card+else-weights-eq0 w ↦ rw (sym c.is_card.ensures ∙ w.if-is_card.true, ne_eqb _ 0 w.if-weights-eq0.false)
+      | else-is_card-via-else-is_card w ↦ rw (sym c.is_card.ensures ∙ w.if-is_card.false)
+    ]

@@ -1,4 +1,5 @@
 -- `cut_card` meets its contract: one law for each of its answers. Assumes nothing.
+use Rattle.std.specs.Prelude.{Ok, Err}
 use mathlib.Core.Path.{◌≡◌, refl, sym, ap, ◌∙◌}
 use mathlib.Core.List.{List, ◌++◌, append_assoc}
 use Prim.Native.Nat.{ℕ, ◌+◌, ◌-◌, ◌≤◌, ◌<◌}
@@ -7,23 +8,26 @@ use lib.ListN.{length, take, drop, length-append, length-take, length-drop}
 use borrow.Author.Tests.{ne_eqb, le-leb, lt-leb}
 use Rattle.field.proofs.LentParts.{put_back}
 use Rattle.droplet.specs.declared.card.Card.{Card}
-use Rattle.droplet.specs.declared.card_cutter.CutAnswer.TheVariants.{Cut, Refused}
+use Rattle.droplet.specs.declared.refusal.Refusal.{Refusal}
+use Rattle.droplet.specs.declared.refusal.Refusal.TheVariants.{CardBuffer}
+use Rattle.droplet.specs.Refusals.{refusal_number}
 use Rattle.droplet.specs.PoolCard.{width_field, card_bytes, weights_start}
 use Rattle.droplet.specs.Questions.{card_refusal}
 use Rattle.droplet.specs.CardCutter.{cut_card, CutPromise}
 use Rattle.droplet.proofs.CardBytes.{head_bytes, width-short, head-length, parts, card-length}
+use Rattle.droplet.proofs.Refusals.{handed_on}
 use Rattle.droplet.proofs.CardAnswers.{SaysNo, passed, stopped}
 use Rattle.droplet.proofs.card_cutter.cut_card.Goals as goal
 
 module _ (c : Card) (ws out : List ℕ) where
-  illegal : (n : ℕ) → SaysNo (card_refusal c ws) n → CutPromise c ws out (Refused n) out
+  illegal : (q : Refusal) → SaysNo (card_refusal c ws) (refusal_number q) → CutPromise c ws out (Err q) out
   unfolding cut_card
-  illegal n s =
-      let no = ne_eqb n 0 s.not-zero in
+  illegal q s =
+      let no = ne_eqb (refusal_number q) 0 s.not-zero in
       record { says = rw (s.number, no); leaves = rw (s.number, no) }
 
   module _ (legal : card_refusal c ws ≡ 0) where
-    short : length out < weights_start + length ws + length (width_field c) → CutPromise c ws out (Refused 19) out
+    short : length out < weights_start + length ws + length (width_field c) → CutPromise c ws out (Err CardBuffer) out
     unfolding cut_card
     short h =
         let no = lt-leb (length (card_bytes c ws)) (length out) (omega (arith, card-length c ws)) in
@@ -33,7 +37,7 @@ module _ (c : Card) (ws out : List ℕ) where
     written : (size end : ℕ) (head once part : List ℕ) → size ≡ end + length (width_field c) → end ≡ weights_start + length ws → size ≤ length out
         → head ≡ head_bytes c ws → once ≡ head ++ (ws ++ drop (length head + length ws) out)
         → part ≡ width_field c ++ drop (length (width_field c)) (take (length once - end) (drop end once))
-        → CutPromise c ws out (Cut size) (take end once ++ (part ++ drop (length once - end) (drop end once)))
+        → CutPromise c ws out (Ok size) (take end once ++ (part ++ drop (length once - end) (drop end once)))
     unfolding cut_card
     written size end head once part s e room h copied put =
         let whole : length (card_bytes c ws) ≡ size = omega (arith, card-length c ws, e, s) in
@@ -48,20 +52,21 @@ module _ (c : Card) (ws out : List ℕ) where
         ∙ ap (λ (n : ℕ). card_bytes c ws ++ drop n out) (sym s) in
         record { says = rw (legal, yes, whole); leaves = rw (legal, yes, whole) (all ∙ card) }
 
-pub returns-in-Refused : goal.returns-in-Refused
-returns-in-Refused c = illegal _ _ _ _ (stopped _ _ c.check_plan.ensures c.in-Refused.is)
+pub returns-in_err-check_plan : goal.returns-in_err-check_plan
+returns-in_err-check_plan c =
+    rw (handed_on _ _ c.from_residual.ensures.1) (illegal _ _ _ _ (stopped _ _ c.check_plan.ensures c.in_err-check_plan.was))
 
 pub overflow_add-size : goal.overflow_add-size
 overflow_add-size c =
-    let weights = (passed _ _ c.check_plan.ensures c.in_default.is).legal.weights in
+    let weights = (passed _ _ c.check_plan.ensures c.in_ok-check_plan.was).legal.weights in
     record { fits = omega (arith, c.width_length.ensures, width-short c.args.card) }
 
 pub returns-then-out-size : goal.returns-then-out-size
 returns-then-out-size c =
-    short _ _ _ (passed _ _ c.check_plan.ensures c.in_default.is).unrefused (omega (arith, c.if-out-size.true, c.width_length.ensures))
+    short _ _ _ (passed _ _ c.check_plan.ensures c.in_ok-check_plan.was).unrefused (omega (arith, c.if-out-size.true, c.width_length.ensures))
 
 pub card_head-requires : goal.card_head-requires
-card_head-requires c = let weights = (passed _ _ c.check_plan.ensures c.in_default.is).legal.weights in omega arith
+card_head-requires c = let weights = (passed _ _ c.check_plan.ensures c.in_ok-check_plan.was).legal.weights in omega arith
 
 pub copy_both-requires : goal.copy_both-requires
 copy_both-requires c =
@@ -73,5 +78,5 @@ put_width-requires c =
 
 pub returns : goal.returns
 returns c =
-    written _ _ _ (passed _ _ c.check_plan.ensures c.in_default.is).unrefused _ _ _ _ _ (rw c.width_length.ensures) refl c.if-out-size.false
+    written _ _ _ (passed _ _ c.check_plan.ensures c.in_ok-check_plan.was).unrefused _ _ _ _ _ (rw c.width_length.ensures) refl c.if-out-size.false
     c.card_head.ensures c.copy_both.ensures c.put_width.ensures

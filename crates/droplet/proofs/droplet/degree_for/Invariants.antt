@@ -1,15 +1,16 @@
--- `degree_for` meets its contract. The invariant: the sum is that of the first `d` weights, and what is left of the search from
--- `d` on finds the degree. Assumes nothing.
+-- `degree_for` meets its contract. The invariant: the first `i` weights sum to no more than `r`, and what is left of the search from
+-- there on finds the degree. Assumes nothing.
 use mathlib.Core.Path.{◌≡◌}
-use Prim.Native.Nat.{◌-◌, ◌≤◌}
+use mathlib.Core.List.{List}
+use Prim.Native.Nat.{ℕ, ◌-◌, ◌≤◌}
 use Rattle.droplet.specs.PoolCard.{weight_count, first_weights}
 use Rattle.droplet.specs.Droplet.{degree_from, degree}
 use Rattle.droplet.proofs.droplet.degree_for.Given as goal
 
-abbrev pub invariant-loop-sum : goal.invariant-loop-sum
-invariant-loop-sum l =
-    (l.sum ≡ first_weights l.weights l.d) × (l.d ≤ weight_count l.weights)
-    × (degree_from l.weights l.r (weight_count l.weights - l.d) l.d ≡ degree l.weights l.r)
+pub record Passed (weights : List ℕ) (r i sum : ℕ) : Type 0 where
+  pub summed : sum ≡ first_weights weights i
+  pub few : sum ≤ r
+  pub goes_on : degree_from weights r (weight_count weights - i) i ≡ degree weights r
 
-abbrev pub decreases-loop-sum : goal.decreases-loop-sum
-decreases-loop-sum l = weight_count l.weights - l.d
+abbrev pub invariant-loop-i : goal.invariant-loop-i
+invariant-loop-i l = Passed l.weights l.r l.i l.sum

@@ -1,5 +1,5 @@
 -- `payload_of` meets its contract: a turn XORs one more segment in. Assumes nothing.
-use mathlib.Core.Path.{◌≡◌, refl, sym, ap, ◌∙◌}
+use mathlib.Core.Path.{◌≡◌, sym, ap, ◌∙◌}
 use mathlib.Core.List.{List}
 use Prim.Native.Nat.{ℕ, ◌+◌, ◌-◌, ◌<◌, ◌≤◌}
 use native.Mathlib.Numerals.{add-one}
@@ -11,7 +11,6 @@ use Rattle.droplet.specs.Droplet.{segment, payload}
 use Rattle.droplet.specs.Loops.{xor_front}
 use Rattle.droplet.proofs.XorFront.{front-padded}
 use Rattle.droplet.proofs.Payload.{segment-length, payload-last, payload-length}
-use borrow.Author.Rules.{rules}
 use Rattle.droplet.proofs.droplet.payload_of.Goals as goal
 
 padded-zeros : (n L : ℕ) → L ≤ n → padded n (replicate L 0) ≡ replicate n 0
@@ -34,20 +33,15 @@ turned L file list p i n h e =
       take-suc list i 0 h,
     )
 
-pub loop-at-init : goal.loop-at-init
+pub loop-s-init : goal.loop-s-init
 unfolding payload
-loop-at-init c = (search rules, refl, sym (padded-zeros 64 _ c.requires))
+loop-s-init c = sym (padded-zeros 64 _ c.requires)
 
-pub loop-at-preserved : goal.loop-at-preserved
-loop-at-preserved c =
-    let l = c.loop-at in (
-      search rules,
-      search rules,
-      c.xor_segment.ensures ∙ turned _ _ _ _ _ _ c.loop-at-test.true l.invariant.2,
-    )
+pub loop-s-preserved : goal.loop-s-preserved
+loop-s-preserved c = c.xor_segment.ensures ∙ turned _ _ _ _ _ _ c.loop-s-test.true c.loop-s.invariant
 
 pub returns : goal.returns
 returns c =
     let a = c.args in
-    c.loop-at.invariant.2
-    ∙ ap (λ (xs : List ℕ). padded 64 (payload a.l a.file.now xs)) (take_all _ a.list.now c.loop-at-test.false)
+    c.loop-s.invariant
+    ∙ ap (λ (xs : List ℕ). padded 64 (payload a.l a.file.now xs)) (take_all _ a.list.now c.loop-s-test.false)

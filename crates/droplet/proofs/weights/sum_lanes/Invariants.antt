@@ -1,11 +1,10 @@
--- `sum_lanes` meets its contract: after `i` turns the sum is that of the lanes' first `i` weights. Assumes nothing.
+-- `sum_lanes` meets its contract: the loop is that of `Lanes`. Assumes nothing.
 use mathlib.Core.Path.{◌≡◌}
-use Prim.Native.Nat.{◌-◌, ◌*◌, ◌^◌, ◌≤◌}
-use Rattle.droplet.specs.PoolCard.{first_weights}
+use lib.ListN.{length}
+use Rattle.droplet.proofs.Lanes.{Joined}
 use Rattle.droplet.proofs.weights.sum_lanes.Given as goal
 
-abbrev pub invariant-loop-i : goal.invariant-loop-i
-invariant-loop-i l = (l.i ≤ 16) × (l.sum ≡ first_weights l.lanes l.i) × (l.sum ≤ 2 ^ 41 * l.i)
-
-abbrev pub decreases-loop-i : goal.decreases-loop-i
-decreases-loop-i l = 16 - l.i
+abbrev pub invariant-loop-four : goal.invariant-loop-four
+invariant-loop-four l =
+    (goal.iterator-loop-four).can_next l.four-iterator × (goal.iterator-loop-four).is_finite l.four-iterator
+    × (l.four-iterator.size ≡ 4) × Joined l.lanes l.four-iterator.rest.now l.sum (length l.yielded)

@@ -10,4 +10,4 @@ unfolding first_weights
 loop-i-preserved c = simp add-one (omega arith)
 
 pub returns : goal.returns
-returns c = c.loop-i.invariant.2 ∙ ap (first_weights _) (omega arith)
+returns c = c.loop-i.invariant.0 ∙ ap (first_weights _) (omega arith)

@@ -1,12 +1,8 @@
--- `sum_weights` meets its contract: what the rows leave is summed one by one. Assumes nothing.
-use lib.ListN.{get_or-replicate}
+-- `sum_weights` meets its contract: few weights are summed one by one from none on. Assumes nothing.
 use Rattle.droplet.specs.PoolCard.{first_weights}
 use borrow.Author.Rules.{rules}
 use Rattle.droplet.proofs.weights.sum_weights.Goals as goal
 
-pub sum_rest-requires : goal.sum_rest-requires
+pub sum_rest-requires-clause-first_value : goal.sum_rest-requires-clause-first_value
 unfolding first_weights
-sum_rest-requires c = search rules
-
-pub add_rows-requires : goal.add_rows-requires
-add_rows-requires c = record { lanes_len = search rules; by_index = λ k h. get_or-replicate 64 k 0 0 h }
+sum_rest-requires-clause-first_value c = search rules

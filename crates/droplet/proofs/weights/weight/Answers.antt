@@ -1,10 +1,7 @@
--- `weight` meets its contract: the four bytes that it joins are the weight's. Assumes nothing.
-use mathlib.Core.Path.{sym, ◌∙◌}
-use native.Mathlib.Omega.{arith}
-use Rattle.droplet.specs.PoolCard.{weight_at}
-use Rattle.droplet.proofs.NumberAt.{number-four}
+-- `weight` meets its contract: it is the number in four bytes. Assumes nothing.
+use Rattle.droplet.specs.PoolCard.{number_at, weight_at}
 use Rattle.droplet.proofs.weights.weight.Goals as goal
 
 pub returns : goal.returns
-unfolding weight_at
-returns c = c.join.ensures ∙ sym (number-four _ _ (omega arith))
+unfolding weight_at number_at
+returns c = c.number_at.ensures

@@ -1,15 +1,15 @@
--- `parity_four` meets its contract: the tables are computed. Assumes nothing.
-use Rattle.std.proofs.Common.{refl, ap, ◌∙◌}
-use Rattle.field.specs.Bytes.{padded, xor_lists, from_big_endian, to_big_endian, table_of}
-use Rattle.field.specs.CheckBytes.{parity, remainder_after, multiple, by_root, times_power, double}
-use Rattle.field.specs.Shift.{shift_up}
-use Rattle.field.specs.Loops.{halves_table, up_four, up_eight}
+-- `parity_four` meets its contract: the remainder with four bytes 0 behind it is the parity. Assumes nothing.
+use Rattle.std.proofs.Common.{ap, ◌∙◌, arith}
+use Rattle.field.specs.Bytes.{IsByte, padded, to_big_endian}
+use Rattle.field.proofs.ByteLists.{all_from}
+use Rattle.field.proofs.BigEndian.{to_be-big_endian}
+use Rattle.field.proofs.Remainders.{parity-by}
 use Rattle.field.proofs.check_four.parity_four.Goals as goal
-
-pub parity_number-requires : goal.parity_number-requires
-unfolding halves_table table_of up_four up_eight from_big_endian to_big_endian parity remainder_after multiple by_root xor_lists times_power double shift_up
-parity_number-requires c = (refl, refl)
 
 pub returns : goal.returns
 unfolding padded to_big_endian
-returns c = c.split.ensures ∙ ap (padded 4) c.parity_number.ensures
+returns c =
+    let m = c.args.message.now in
+    let r = c.remainder_of in
+    c.to_be_bytes.ensures ∙ to_be-big_endian _
+    ∙ ap (padded 4) (ap to_big_endian c.up_four.ensures ∙ parity-by m r.result (all_from IsByte m 0 (λ k h. omega (arith, c.type_inv.message k))) r.ensures)

@@ -1,25 +1,23 @@
 -- `reorder_file` meets its contract: one law for each of its answers. Assumes nothing.
-use native.Mathlib.Omega.{arith}
+use Rattle.std.proofs.Common.{arith}
+use Rattle.std.proofs.lemmas.Result.{err_from_is_err_and}
 use Rattle.droplet.proofs.CardAnswers.{passed, stopped}
-use Rattle.interleave.proofs.ReorderAnswers.{illegal, source-short, target-short, moved}
+use Rattle.interleave.proofs.ReorderAnswers.{illegal, too_short, moved}
 use Rattle.interleave.proofs.file.reorder_file.Goals as goal
 
-pub returns-in-Refused : goal.returns-in-Refused
-returns-in-Refused c = illegal _ _ _ _ _ _ (stopped _ _ c.check_plan.ensures c.in-Refused.is)
+pub returns-in_err-check_plan : goal.returns-in_err-check_plan
+returns-in_err-check_plan c =
+    let p = err_from_is_err_and c.from_residual.result c.from_residual.ensures.1 in
+    rw (p.1, p.2) (illegal _ _ _ _ _ _ (stopped _ _ c.check_plan.ensures c.in_err-check_plan.was))
 
 pub returns-then-source-n : goal.returns-then-source-n
 returns-then-source-n c =
-    let legal = (passed _ _ c.check_plan.ensures c.in_default.is).unrefused in
-    source-short _ _ _ _ _ legal (omega arith)
-
-pub returns-then-target-n : goal.returns-then-target-n
-returns-then-target-n c =
-    let legal = (passed _ _ c.check_plan.ensures c.in_default.is).unrefused in
-    target-short _ _ _ _ _ legal (omega arith) (omega arith)
+    let legal = (passed _ _ c.check_plan.ensures c.in_ok-check_plan.was).unrefused in
+    too_short _ _ _ _ _ legal c.then-source-n.either
 
 pub move_file-requires : goal.move_file-requires
 move_file-requires c =
-    let width = (passed _ _ c.check_plan.ensures c.in_default.is).legal.width in (
+    let width = (passed _ _ c.check_plan.ensures c.in_ok-check_plan.was).legal.width in (
       λ there. omega (arith, (width there).width-least),
       omega arith,
       omega arith,
@@ -27,5 +25,5 @@ move_file-requires c =
 
 pub returns : goal.returns
 returns c =
-    let legal = (passed _ _ c.check_plan.ensures c.in_default.is).unrefused in
+    let legal = (passed _ _ c.check_plan.ensures c.in_ok-check_plan.was).unrefused in
     moved _ _ _ _ _ legal (omega arith) (omega arith) _ c.move_file.ensures

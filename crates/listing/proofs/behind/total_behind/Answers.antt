@@ -1,5 +1,5 @@
 -- `total_behind` meets its contract: what is left to sum is nothing when the loop ends. Assumes nothing.
-use Rattle.std.proofs.Common.{◌≡◌, ℕ, ◌+◌, ◌*◌, ◌%◌, ◌^◌, ◌<◌, ◌≤◌, List, length, ap, ◌∙◌, arith}
+use Rattle.std.proofs.Common.{◌≡◌, ℕ, ◌+◌, ◌*◌, ◌%◌, ◌^◌, ◌<◌, ◌≤◌, List, length, refl, ap, ◌∙◌, arith}
 use Rattle.decoder.specs.Store.{record_bytes, record_count, record_from, records}
 use Rattle.decoder.specs.Demand3.{total_count}
 use Rattle.decoder.specs.Loops.{record_at}
@@ -40,8 +40,8 @@ pub record_at-requires : goal.record_at-requires
 record_at-requires c =
     (c.requires.short, record-fits c.args.l c.args.count c.args.store.now _ c.loop-i-test.true c.requires.fits)
 
-pub count_in-one-requires : goal.count_in-one-requires
-count_in-one-requires c =
+pub count_in-behind-requires : goal.count_in-behind-requires
+count_in-behind-requires c =
     let own = ap length c.record_at.ensures
     ∙ record-length c.args.l c.args.count c.args.store.now c.loop-i.i c.loop-i-test.true c.requires.fits in
     (c.requires.short, omega (arith, own))
@@ -49,7 +49,7 @@ count_in-one-requires c =
 pub loop-i-preserved : goal.loop-i-preserved
 loop-i-preserved c =
     turn _ _ _ _ _ _ _ c.loop-i-test.true c.requires.fits
-    (c.count_in-one.ensures ∙ ap (record_count c.args.l) c.record_at.ensures) c.wrapping_add_u64-total.ensures.value c.loop-i.invariant
+    (c.from-total.ensures ∙ c.count_in-behind.ensures ∙ ap (record_count c.args.l) c.record_at.ensures) refl c.loop-i.invariant
 
 pub returns : goal.returns
 returns c = done _ _ _ _ _ c.loop-i-test.false c.loop-i.invariant

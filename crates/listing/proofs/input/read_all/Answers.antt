@@ -1,6 +1,7 @@
 -- `read_all` meets its contract: what comes in a turn comes behind what came so far. Assumes nothing.
+use Rattle.std.proofs.Common.{ap}
 use Rattle.listing.proofs.LineInHand.{came-read}
 use Rattle.listing.proofs.input.read_all.Goals as goal
 
-pub loop-turns-preserved : goal.loop-turns-preserved
-loop-turns-preserved g c = came-read _ _ _ _ _ _ _ _ _ _ _ _ c.loop-turns.invariant c.read_some-turn.ensures
+pub loop-preserved : goal.loop-preserved
+loop-preserved g c = let h = came-read _ _ _ _ _ _ _ _ _ _ _ _ _ c.loop.invariant c.take_read.ensures in rw c.in-Some.is at h

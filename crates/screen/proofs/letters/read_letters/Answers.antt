@@ -9,8 +9,7 @@ use native.Mathlib.Omega.{arith}
 use lib.ListN.{length, get_or, drop, set, length-set, drop_of_length-le}
 use lib.Seq.{drop-cons, take-suc-set, take_all}
 use Rattle.field.proofs.Tests.{either}
-use Rattle.screen.specs.declared.letters.Spelled.{Spelled}
-use Rattle.screen.specs.declared.letters.Spelled.TheVariants.{Byte, Nothing}
+use Rattle.std.proofs.Common.{Option, Some, None}
 use Rattle.screen.specs.Letters.{letter_bits, is_bits, all_letters, letters_byte, letters_word}
 use Rattle.screen.specs.Loops.{spelled}
 use Rattle.screen.proofs.letters.read_letters.Invariants.{Stands}
@@ -31,13 +30,13 @@ module _ (a b c d : ℕ) where
   unfolding all_letters
   all-four rest = four-and (is_bits (letter_bits a)) (is_bits (letter_bits b)) (is_bits (letter_bits c)) (is_bits (letter_bits d)) (all_letters rest)
 
-  is_byte : (v : ℕ) → spelled a b c d ≡ Byte v → (all_letters four ≡ true) × (v ≡ letters_byte a b c d)
+  is_byte : (v : ℕ) → spelled a b c d ≡ Some v → (all_letters four ≡ true) × (v ≡ letters_byte a b c d)
   unfolding spelled
   is_byte v e = elim (either (all_letters four)) [ inl t ↦ (t, cc (rw t at e)) | inr f ↦ (cc (rw f at e), cc (rw f at e)) ]
 
-  is-nothing : spelled a b c d ≡ Nothing → all_letters four ≡ false
+  is-none : spelled a b c d ≡ None → all_letters four ≡ false
   unfolding spelled
-  is-nothing e = elim (either (all_letters four)) [ inl t ↦ cc (rw t at e) | inr f ↦ f ]
+  is-none e = elim (either (all_letters four)) [ inl t ↦ cc (rw t at e) | inr f ↦ f ]
 
 -- what is left of the read from a place on
 module _ (read : List ℕ) (n : ℕ) (fits : n + 4 ≤ length read) where
@@ -55,26 +54,25 @@ module _ (read : List ℕ) (n : ℕ) (fits : n + 4 ≤ length read) where
       )
 
 module _ (read word₀ word : List ℕ) (i : ℕ) (now : Stands read word₀ word i) (same : length read ≡ 4 * length word₀) where
-  abbrev next : Spelled
+  abbrev next : Option ℕ
   next = spelled (get_or read (4 * i) 0) (get_or read (4 * i + 1) 0) (get_or read (4 * i + 2) 0) (get_or read (4 * i + 3) 0)
 
-  turned : (v : ℕ) → i < length word → next ≡ Byte v → Stands read word₀ (set word i v) (i + 1)
+  turned : (v : ℕ) → i < length word → next ≡ Some v → Stands read word₀ (set word i v) (i + 1)
   unfolding letters_word
   turned v h e =
       let l = left read (4 * i) (omega (arith, now.long)) in
       let s = is_byte _ _ _ _ v e in
       let m : 4 * (i + 1) ≡ 4 * i + 4 = omega arith in
       record {
-        at_most = simp length-set (omega arith);
         long = simp length-set now.long;
         letters = rw m (rw (l, all-four, s.0) at now.letters);
         spells = rw (m, add-one i, take-suc-set word i v h, append_assoc, s.1) (rw l at now.spells);
       }
 
-  stopped : i < length word → next ≡ Nothing → false ≡ all_letters read
+  stopped : i < length word → next ≡ None → false ≡ all_letters read
   stopped h e =
       let l = left read (4 * i) (omega (arith, now.long)) in
-      rw (l, all-four, is-nothing _ _ _ _ e) at now.letters
+      rw (l, all-four, is-none _ _ _ _ e) at now.letters
 
   all_read : length word ≤ i → drop (4 * i) read ≡ []
   all_read h = let m : length read ≤ 4 * i = omega (arith, now.long) in drop_of_length-le read m
@@ -99,7 +97,7 @@ pub loop-i-preserved : goal.loop-i-preserved
 loop-i-preserved c =
     let a = c.args in
     turned a.read.now a.word.now c.loop-i.word c.loop-i.i c.loop-i.invariant c.requires _ (omega arith)
-    (sym c.read_byte.ensures ∙ c.in-Byte.is)
+    (sym c.read_byte.ensures ∙ c.in-Some.is)
 
 pub returns : goal.returns
 returns c =

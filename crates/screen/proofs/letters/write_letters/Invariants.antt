@@ -2,14 +2,10 @@
 -- Assumes nothing.
 use mathlib.Core.Path.{◌≡◌}
 use mathlib.Core.List.{◌++◌}
-use Prim.Native.Nat.{◌-◌, ◌*◌, ◌≤◌}
-use lib.ListN.{length, take, drop}
+use Prim.Native.Nat.{◌*◌}
+use lib.ListN.{take, drop}
 use Rattle.screen.specs.Letters.{word_letters}
 use Rattle.screen.proofs.letters.write_letters.Given as goal
 
 abbrev pub invariant-loop-i : goal.invariant-loop-i
-invariant-loop-i l =
-    (l.i ≤ length l.word) × (length l.out ≡ 4 * length l.word) × (take (4 * l.i) l.out ++ word_letters (drop l.i l.word) ≡ word_letters l.word)
-
-abbrev pub decreases-loop-i : goal.decreases-loop-i
-decreases-loop-i l = length l.word - l.i
+invariant-loop-i l = take (4 * l.i) l.out ++ word_letters (drop l.i l.word) ≡ word_letters l.word

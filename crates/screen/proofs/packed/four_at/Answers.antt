@@ -5,6 +5,8 @@ use Prim.Native.Nat.{ℕ, ◌+◌, ◌*◌, ◌^◌, ◌≤◌}
 use native.Mathlib.Omega.{arith}
 use lib.ListN.{length, get_or, drop}
 use Rattle.field.specs.Bytes.{from_big_endian}
+use Rattle.droplet.specs.PoolCard.{number_at}
+use Rattle.droplet.proofs.NumberAt.{number-four}
 use Rattle.screen.specs.Loops.{number_after}
 use Rattle.screen.proofs.PackedBases.{next-byte}
 use Rattle.screen.proofs.packed.four_at.Goals as goal
@@ -23,4 +25,7 @@ four word i r h e n =
     ∙ ap (λ (m : ℕ). number_after m (drop (i + 4) word)) all
 
 pub returns : goal.returns
-returns c = four c.args.word.now c.args.i c.join.result c.requires c.join.ensures
+unfolding number_at
+returns c =
+    let word = c.args.word.now in
+    four word c.args.i c.number_at.result c.requires (c.number_at.ensures ∙ number-four word c.args.i (omega arith))

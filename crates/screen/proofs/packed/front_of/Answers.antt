@@ -1,7 +1,7 @@
 -- `front_of`: a byte more takes number and mask eight bits further, and fewer than eight bytes leave room. Assumes nothing.
 use mathlib.Core.Path.{◌≡◌, refl, sym, ◌∙◌}
 use mathlib.Core.List.{List}
-use Prim.Native.Nat.{ℕ, suc, ◌+◌, ◌*◌, ◌^◌, ◌<◌, ◌≤◌, zero-le}
+use Prim.Native.Nat.{ℕ, suc, ◌+◌, ◌*◌, ◌^◌, ◌<◌, ◌≤◌}
 use native.Mathlib.Nat.{lt_of_lt_of_le}
 use native.Mathlib.Omega.{arith}
 use lib.Dec.{lit<}
@@ -28,39 +28,52 @@ four-more j =
 module _ (word : List ℕ) (before number mask j : ℕ) (now : Stands word before number mask j) where
   turned : j < length word → get_or word j 0 < 256 → Stands word before (number * 256 + get_or word j 0) (mask * 256 + 85) (j + 1)
   turned h b = record {
-    at_most = omega arith;
     fits = wider (8 * j + 2) _ number _ now.fits b (omega arith);
     leads = sym (next-byte word number j (j + 1) h refl) ∙ now.leads;
     masks = rw now.masks (sym (four-more j));
     mask_fits = wider (8 * j) _ mask 85 now.mask_fits (lit< tt) (omega arith);
   }
 
-  finished : length word ≤ j → (number ≡ number_after before word) × (mask ≡ low_bits (4 * length word))
+  finished : j ≡ length word → (number ≡ number_after before word) × (mask ≡ low_bits (4 * length word))
   unfolding number_after
-  finished h =
-      let e : j ≡ length word = omega (arith, now.at_most) in
-      (rw (drop_of_length-le word h) at now.leads, rw e at now.masks)
+  finished e = let h : length word ≤ j = omega arith in (rw (drop_of_length-le word h) at now.leads, rw e at now.masks)
 
-  roomy : length word < 8 → (number < 2 ^ 62) × (mask < 2 ^ 62)
-  roomy h =
-      (narrow 62 _ number now.fits (omega (arith, now.at_most)), narrow 62 _ mask now.mask_fits (omega (arith, now.at_most)))
+  roomy : j < 8 → (number < 2 ^ 62) × (mask < 2 ^ 62)
+  roomy h = (narrow 62 _ number now.fits (omega arith), narrow 62 _ mask now.mask_fits (omega arith))
 
-pub loop-j-init : goal.loop-j-init
+pub loop-b-init : goal.loop-b-init
 unfolding low_bits
-loop-j-init c = record { at_most = zero-le; fits = omega (arith, c.requires.1); leads = refl; masks = refl; mask_fits = lit< tt }
+loop-b-init c = record { fits = omega (arith, c.requires.1); leads = refl; masks = refl; mask_fits = lit< tt }
 
 pub overflow_mul-number : goal.overflow_mul-number
-overflow_mul-number c = let l = c.loop-j in omega (arith, narrow 55 _ l.number l.invariant.fits (omega arith))
+overflow_mul-number c =
+    let l = c.loop-b in
+    omega (arith, narrow 55 _ l.number l.invariant.fits (omega arith))
 
-pub loop-j-preserved : goal.loop-j-preserved
-loop-j-preserved c =
-    let l = c.loop-j in
-    turned _ _ l.number l.mask l.j l.invariant (omega arith) (omega (arith, c.type_inv.word l.j))
+pub overflow_add-number : goal.overflow_add-number
+overflow_add-number c =
+    let l = c.loop-b in
+    omega (arith, narrow 55 _ l.number l.invariant.fits (omega arith), c.type_inv.word l.b-index)
+
+pub overflow_mul-mask : goal.overflow_mul-mask
+overflow_mul-mask c =
+    let l = c.loop-b in
+    omega (arith, narrow 55 _ l.mask l.invariant.mask_fits (omega arith))
+
+pub overflow_add-mask : goal.overflow_add-mask
+overflow_add-mask c =
+    let l = c.loop-b in
+    omega (arith, narrow 55 _ l.mask l.invariant.mask_fits (omega arith))
+
+pub loop-b-preserved : goal.loop-b-preserved
+loop-b-preserved c =
+    let l = c.loop-b in
+    rw c.from.ensures (turned _ _ l.number l.mask l.b-index l.invariant (omega arith) (omega (arith, c.type_inv.word l.b-index)))
 
 pub returns : goal.returns
 returns c =
-    let l = c.loop-j in
+    let l = c.loop-b in
     record {
-      number_value = finished _ _ l.number l.mask l.j l.invariant (omega arith);
-      number_bound = roomy _ _ l.number l.mask l.j l.invariant c.requires.0;
+      number_value = finished _ _ l.number l.mask l.b-index l.invariant (omega arith);
+      number_bound = roomy _ _ l.number l.mask l.b-index l.invariant (omega arith);
     }

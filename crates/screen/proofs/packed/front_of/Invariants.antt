@@ -2,20 +2,16 @@
 -- the bases so far. Assumes nothing.
 use mathlib.Core.Path.{◌≡◌}
 use mathlib.Core.List.{List}
-use Prim.Native.Nat.{ℕ, ◌+◌, ◌-◌, ◌*◌, ◌^◌, ◌<◌, ◌≤◌}
-use lib.ListN.{length, drop}
+use Prim.Native.Nat.{ℕ, ◌+◌, ◌*◌, ◌^◌, ◌<◌}
+use lib.ListN.{drop}
 use Rattle.screen.specs.Loops.{number_after, low_bits}
 use Rattle.screen.proofs.packed.front_of.Given as goal
 
 pub record Stands (word : List ℕ) (before number mask j : ℕ) : Type 0 where
-  pub at_most : j ≤ length word
   pub fits : number < 2 ^ (8 * j + 2)
   pub leads : number_after number (drop j word) ≡ number_after before word
   pub masks : mask ≡ low_bits (4 * j)
   pub mask_fits : mask < 2 ^ (8 * j)
 
-abbrev pub invariant-loop-j : goal.invariant-loop-j
-invariant-loop-j l = Stands l.word l.before l.number l.mask l.j
-
-abbrev pub decreases-loop-j : goal.decreases-loop-j
-decreases-loop-j l = length l.word - l.j
+abbrev pub invariant-loop-b : goal.invariant-loop-b
+invariant-loop-b l = Stands l.word l.before l.number l.mask l.b-index

@@ -1,7 +1,7 @@
 -- `thin`: a turn thins one number more, with the last flag of the one before it in front. Assumes nothing.
 use mathlib.Core.Path.{◌≡◌, refl, ap, ◌∙◌}
 use mathlib.Core.List.{List}
-use Prim.Native.Nat.{ℕ, ◌+◌, ◌*◌, ◌/◌, ◌%◌, ◌^◌, ◌<◌, zero-le}
+use Prim.Native.Nat.{ℕ, ◌+◌, ◌*◌, ◌/◌, ◌%◌, ◌^◌, ◌<◌}
 use native.Mathlib.Omega.{arith}
 use lib.Bits.{bit_and, bit_or, and_le_l, and_le_r, or_add_and}
 use borrow.Author.Rules.{rules}
@@ -29,7 +29,6 @@ module _ (xs zs : List ℕ) (any before i : ℕ) (now : Thins xs zs any before i
       let or = or_add_and any m in
       let l = and_le_l any m in
       let r = and_le_r any m in record {
-        at_most = omega arith;
         long = simp length-set now.long;
         kept = λ k j. get_or-set_other zs i k v 0 (λ q. omega arith) ∙ now.kept k (omega arith);
         thins = rw grows (omega (
@@ -44,10 +43,9 @@ module _ (xs zs : List ℕ) (any before i : ℕ) (now : Thins xs zs any before i
         no-any = λ q. omega (arith, grows, now.no-any (omega (arith, grows)));
       }
 
-pub loop-i-init : goal.loop-i-init
+pub loop-chunk-init : goal.loop-chunk-init
 unfolding chunks_number thinned
-loop-i-init c = record {
-  at_most = zero-le;
+loop-chunk-init c = record {
   long = refl;
   kept = λ k h. refl;
   thins = refl;
@@ -56,20 +54,20 @@ loop-i-init c = record {
   no-any = λ e. refl;
 }
 
-pub loop-i-preserved : goal.loop-i-preserved
-loop-i-preserved c =
-    let l = c.loop-i in
+pub loop-chunk-preserved : goal.loop-chunk-preserved
+loop-chunk-preserved c =
+    let l = c.loop-chunk in
     let xs = c.args.matches.now in
-    next xs l.matches l.any l.before l.i l.invariant (omega (arith, l.invariant.long)) _
+    next xs l.matches l.any l.before l.chunk-index l.invariant (omega (arith, l.invariant.long)) _
     (search rules)
-    (ap (bit_and (get_or l.matches l.i 0)) c.moved.ensures)
+    (ap (bit_and (get_or l.matches l.chunk-index 0)) c.moved.ensures)
 
 pub returns : goal.returns
 returns c =
-    let l = c.loop-i in
+    let l = c.loop-chunk in
     let xs = c.args.matches.now in
-    let all = take_all l.i xs (omega (arith, l.invariant.long)) in
-    let all-now = take_all l.i l.matches (omega arith) in
+    let all = take_all l.chunk-index xs (omega (arith, l.invariant.long)) in
+    let all-now = take_all l.chunk-index l.matches (omega (arith, l.invariant.long)) in
     record {
       matches_after = rw (all, all-now) at l.invariant.thins;
       matches_value = (rw all at l.invariant.none, rw all at l.invariant.no-any);

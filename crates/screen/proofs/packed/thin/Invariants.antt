@@ -1,7 +1,7 @@
 -- `thin` meets its contract. The invariant: the first `i` numbers are thinned, and the others are as they were. Assumes nothing.
 use mathlib.Core.Path.{◌≡◌}
 use mathlib.Core.List.{List}
-use Prim.Native.Nat.{ℕ, ◌-◌, ◌%◌, ◌≤◌}
+use Prim.Native.Nat.{ℕ, ◌%◌, ◌≤◌}
 use lib.ListN.{length, get_or, take}
 use Rattle.screen.specs.Loops.{chunks_number, thinned}
 use Rattle.screen.proofs.packed.thin.Given as goal
@@ -12,7 +12,6 @@ first xs i = chunks_number (take i xs)
 
 -- after `i` turns over xs, which is zs by now
 pub record Thins (xs zs : List ℕ) (any before i : ℕ) : Type 0 where
-  pub at_most : i ≤ length xs
   pub long : length zs ≡ length xs
   pub kept : (k : ℕ) → i ≤ k → get_or zs k 0 ≡ get_or xs k 0
   pub thins : first zs i ≡ thinned (first xs i)
@@ -20,8 +19,5 @@ pub record Thins (xs zs : List ℕ) (any before i : ℕ) : Type 0 where
   pub none : any ≡ 0 → first xs i ≡ 0
   pub no-any : first xs i ≡ 0 → any ≡ 0
 
-abbrev pub invariant-loop-i : goal.invariant-loop-i
-invariant-loop-i l = Thins l.initial.matches l.matches l.any l.before l.i
-
-abbrev pub decreases-loop-i : goal.decreases-loop-i
-decreases-loop-i l = length l.initial.matches - l.i
+abbrev pub invariant-loop-chunk : goal.invariant-loop-chunk
+invariant-loop-chunk l = Thins l.initial.matches l.matches l.any l.before l.chunk-index

@@ -1,8 +1,9 @@
 -- `measure_of` meets its contract: ten numbers have room for the matches of 72 bytes. Assumes nothing.
-use mathlib.Core.Path.{◌≡◌, refl}
+use mathlib.Core.Path.{◌≡◌, refl, sym, ◌∙◌}
 use mathlib.Core.List.{List, [], ◌∷◌}
 use Prim.Native.Nat.{ℕ}
 use native.Mathlib.Omega.{arith}
+use borrow.Author.Tests.{eqb-true}
 use lib.ListN.{length}
 use Rattle.screen.specs.Letters.{letter_bits, text_letters, letters_bases, word_bases}
 use Rattle.screen.specs.Sites.{site_before, site_after}
@@ -14,5 +15,5 @@ unfolding word_bases site_before site_after text_letters letter_bits letters_bas
 empty [] e = refl
 empty (b ∷ bs) e = absurd (let z : ⊥ = omega arith in z)
 
-pub returns-then-word-eq0 : goal.returns-then-word-eq0
-returns-then-word-eq0 c = empty _ c.if-word-eq0.true
+pub returns-then-is_empty : goal.returns-then-is_empty
+returns-then-is_empty c = empty _ (eqb-true _ _ (sym c.is_empty.ensures ∙ c.if-is_empty.true))

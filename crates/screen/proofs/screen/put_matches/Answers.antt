@@ -83,6 +83,7 @@ loop-k-init c =
     let rest : length (take (length w % 8) w) ≡ length w % 8 = length-take-le _ w (omega arith) in
     let mask = rw rest at front.ensures.number_value.1 in (
       refl,
+      refl,
       started w c.args.before c.args.matches.now front.result.number front.result.mask c.gc_of-gc.result
           c.requires.1 front.ensures.number_value.0 front.ensures.number_bound.0 mask (c.gc_of-gc.ensures (4 * (length w % 8)) (omega (arith, mask))),
     )
@@ -93,7 +94,7 @@ overflow_add-gc c =
     let l = c.loop-k in
     omega (
       arith,
-      few _ _ l.matches l.gc l.last l.mask l.k l.invariant.1,
+      few _ _ l.matches l.gc l.last l.mask l.k l.invariant.2,
       c.gc_of.ensures 32 refl,
       gc-few 32 c.eight_at-bases.result,
     )
@@ -104,9 +105,10 @@ loop-k-preserved c =
     let l = c.loop-k in
     let x = c.eight_at-bases in
     let flags = c.matches_of in
-    let waited = flags.ensures l.invariant.1.width l.invariant.1.masks in (
+    let waited = flags.ensures l.invariant.2.width l.invariant.2.masks in (
       refl,
-      turned _ _ l.matches l.gc l.last l.mask l.k l.invariant.1 x.result flags.result _ (omega arith) (search rules) x.ensures
+      refl,
+      turned _ _ l.matches l.gc l.last l.mask l.k l.invariant.2 x.result flags.result _ (omega arith) (search rules) x.ensures
           (rw c.followed.ensures at waited) (c.gc_of.ensures 32 refl),
     )
 
@@ -114,7 +116,8 @@ pub returns : goal.returns
 returns c =
     let l = c.loop-k in
     let after = c.args.after in
+    let end : l.k ≡ length c.args.word.now / 8 = omega arith in
     let next : after * 2 ^ 62 % 2 ^ 64 / 2 ^ 62 ≡ after = omega (arith, c.requires.3) in
-    let waited = c.matches_of-2.ensures l.invariant.1.width (omega (arith, l.invariant.1.masks)) in
-    finished _ _ l.matches l.gc l.last l.mask l.k l.invariant.1 after _ (omega arith) c.requires.3
+    let waited = c.matches_of-2.ensures l.invariant.2.width (omega (arith, l.invariant.2.masks)) in
+    finished _ _ l.matches l.gc l.last l.mask _ (rw end at l.invariant.2) after _ (omega arith) c.requires.3
     (rw (c.followed-2.ensures, next) at waited)

@@ -2,7 +2,7 @@
 -- with its C and G; and its matches, all but the last number of them, which waits for the base that comes next. Assumes nothing.
 use mathlib.Core.Path.{◌≡◌}
 use mathlib.Core.List.{List}
-use Prim.Native.Nat.{ℕ, ◌+◌, ◌-◌, ◌*◌, ◌/◌, ◌%◌, ◌^◌, ◌<◌, ◌≤◌}
+use Prim.Native.Nat.{ℕ, ◌+◌, ◌*◌, ◌/◌, ◌%◌, ◌^◌, ◌<◌, ◌≤◌}
 use lib.Bits.{bit_xor}
 use lib.ListN.{length, take, drop}
 use Rattle.screen.specs.Loops.{number_after, chunks_number, low_bits, gc_in, zero_pairs, matches}
@@ -24,7 +24,5 @@ pub record Stands (word : List ℕ) (before : ℕ) (chunks : List ℕ) (gc last 
   pub counts : gc ≡ gc_in (4 * (length word % 8 + k * 8)) number
 
 abbrev pub invariant-loop-k : goal.invariant-loop-k
-invariant-loop-k l = (l.rest ≡ length l.word % 8) × Stands l.word l.before l.matches l.gc l.last l.mask l.k
-
-abbrev pub decreases-loop-k : goal.decreases-loop-k
-decreases-loop-k l = length l.word / 8 - l.k
+invariant-loop-k l =
+    (l.rest ≡ length l.word % 8) × (l.eights ≡ length l.word / 8) × Stands l.word l.before l.matches l.gc l.last l.mask l.k

@@ -1,5 +1,5 @@
 -- `hand_over` meets its contract: too short a buffer is left alone, any other gets the record. Assumes nothing.
-use mathlib.Core.Path.{◌≡◌, sym}
+use mathlib.Core.Path.{◌≡◌}
 use native.Mathlib.Omega.{arith}
 use borrow.Author.Tests.{le-leb, lt-leb}
 use lib.ListN.{length, take}
@@ -9,18 +9,10 @@ use Rattle.strand.proofs.c_form.hand_over.Goals as goal
 
 pub returns-then-out-l : goal.returns-then-out-l
 unfolding droplet_over
-returns-then-out-l c = simp (lt-leb _ _ c.if-out-l.true)
-
-pub slice_bounds-put_droplet-end : goal.slice_bounds-put_droplet-end
-slice_bounds-put_droplet-end c = sym (length-take-le _ _ (omega arith))
-
-pub put_droplet-requires : goal.put_droplet-requires
-put_droplet-requires c =
-    let n : length (take c.args.l c.args.payload.now) ≡ c.args.l = length-take-le _ _ (omega arith) in
-    omega (arith, n, c.if-out-l.false)
+returns-then-out-l c = simp (lt-leb _ _ (rw c.from-l.ensures at c.if-out-l.true))
 
 pub returns : goal.returns
 unfolding droplet_over
 returns c =
-    let n : length (take c.args.l c.args.payload.now) ≡ c.args.l = length-take-le _ _ (omega arith) in
-    rw (le-leb _ _ c.if-out-l.false, c.put_droplet.ensures, n)
+    let n : length (take c.args.l c.args.droplet.payload) ≡ c.args.l = length-take-le _ _ (omega arith) in
+    rw (le-leb _ _ (rw c.from-l.ensures at c.if-out-l.false), c.put_droplet.ensures, c.from-l.ensures, n)
