@@ -76,7 +76,8 @@ def point1():
             full = [v for v in vs if '(' in v]
             if not (full and ('Refused(u8)' in vs or len(vs) == 2)):
                 d = re.search(r'#\[derive\(([^)]*)\)\]\s*(?:pub )?enum %s\b' % name, raw)
-                print('  %s: %s { %s } derives %s' % (short(p), name, ', '.join(vs), d and d.group(1)))
+                if not d or 'Debug' not in d.group(1):
+                    print('  %s: %s { %s } derives %s' % (short(p), name, ', '.join(vs), d and d.group(1)))
     print('structs with a flag beside a value:')
     for p, t in FILES.items():
         for name, body in items(t, 'struct'):

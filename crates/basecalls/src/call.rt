@@ -27,6 +27,7 @@ pub fn middle(call: &[u8], n: usize) -> &[u8]
 }
 
 // Whether a call passes: its length, before any part of it is taken, its sites, and the questions 9 to 13 of its middle.
+// `InRange` stays a clause, as `check_strand` asks it (docs/DECISIONS.md, 16).
 pub fn passes(card: Card, call: &[u8]) -> bool
     requires { InRange card }
     ensures { result ≡ call_passes card call.now }

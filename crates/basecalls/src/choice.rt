@@ -42,6 +42,7 @@ pub fn choose_call(
 }
 
 // The letters to read: that part of the chosen call itself, as it was read. On a refusal it is empty.
+// No Result: docs/CLAIMS.md (Item 8) and `LettersPromise` ask for an empty part.
 pub fn chosen_letters<'a>(card: Card, weights: &[u8], first: &'a [u8], second: &'a [u8]) -> &'a [u8]
     ensures { LettersPromise card weights.now first.entry second.entry result }
 {

@@ -1,6 +1,5 @@
 ghost use Rattle.std.specs.Prelude.{◌≡◌, true, false, [], ◌∷◌};
 ghost use Rattle.droplet.specs.Questions.{card_reading};
-ghost use Rattle.droplet.specs.Refusals.{asked};
 ghost use Rattle.strand.specs.CForm.{handed_card};
 ghost use Rattle.split.specs.SeedPosition.{seed_at};
 ghost use Rattle.basecalls.specs.TwoCallers.{choose_call};
@@ -17,24 +16,15 @@ use droplet::refusal::Refusal;
 use droplet::{card, card_cutter};
 use interleave::file;
 use split::seed_position;
-use strand::c_form::handed_card;
+use strand::c_form::{code, handed_card};
 use strand::writer;
 use strand::writer::{Run, Stop};
 
 // Each form calls the public function of its layer and turns the answer into numbers. They are written last, and only where
-// nothing was refused, so that a refusal leaves what the host lent.
+// nothing was refused, so that a refusal leaves what the host lent. The card's eight numbers stand in each form, and what a form
+// returns is a number, as the C interface has them.
 
-// What a form returns: 0, or the number of the refusal.
-fn code(outcome: Result<(), Refusal>) -> u32
-    ensures { result ≡ asked outcome }
-{
-    match outcome {
-        Ok(()) => 0,
-        Err(refusal) => u32::from(refusal.number()),
-    }
-}
-
-// The same of a form that answers numbers.
+// What a form that answers numbers returns: 0, or the number of the refusal, as `code` has it for the others.
 fn answered<const N: usize>(outcome: Result<[u64; N], Refusal>, answer: &mut [u64; N]) -> u32
     ensures { returned result answer.new ≡ numbers_returned answer.old outcome.entry }
 {
@@ -43,7 +33,7 @@ fn answered<const N: usize>(outcome: Result<[u64; N], Refusal>, answer: &mut [u6
             *answer = numbers;
             0
         }
-        Err(refusal) => u32::from(refusal.number()),
+        Err(refusal) => u32::from(refusal),
     }
 }
 
@@ -104,7 +94,7 @@ pub extern "C" fn fountain_cut_card(
     answered(cut.map(length_number), answer)
 }
 
-// How the writer stopped, as a number.
+// How the writer stopped, as a number. No `From`, which would be no plainer: only the crate of a type may write it, and the number is C's.
 fn stop_number(stop: Stop) -> u64
     ensures { result ≡ stop_number stop }
 {
@@ -171,7 +161,7 @@ pub extern "C" fn fountain_seed_at(start: u32, steps: u32, answer: &mut [u64; 1]
     answered(seed.map(seed_number), answer)
 }
 
-// The call that is chosen, as a number.
+// The call that is chosen, as a number. No `From`: as `stop_number`.
 fn caller_number(caller: Caller) -> [u64; 1]
     ensures { result ≡ caller_number caller ∷ [] }
 {
@@ -205,7 +195,7 @@ pub extern "C" fn fountain_choose_call(
     answered(chosen.map(caller_number), answer)
 }
 
-// What became of a read, as a number, and the count of records after it.
+// What became of a read, as a number, and the count of records after it. No `From`: as `stop_number`.
 fn store_numbers(reply: StoreAnswer) -> [u64; 2]
     ensures { result ≡ store_numbers reply }
 {

@@ -6,7 +6,7 @@ ghost use Rattle.field.specs.CheckBytes.{double, times_power};
 ghost use Rattle.field.specs.Products.{field_product};
 ghost use Rattle.correction.specs.Locators.{follows, square, linear, constant, single_error, NoPlace, FirstPlace, NoTwoPlaces, FirstTwo};
 
-use field::check_bytes::times_root;
+use field::check_bytes::{times_power, times_root};
 use field::polynomial::product_of;
 
 // The first three syndromes, each times the root's power at a place.
@@ -44,7 +44,8 @@ impl Scaled {
         }
     }
 
-    // Whether they are the numbers after the first of the `m` numbers of `s`.
+    // Whether they are the numbers after the first of the `m` numbers of `s`. No array and slices up to `m`: with them 38 places take
+    // 1,007 ns with `m` 3, in place of 213, and 1,016 with `m` 2, in place of 32 (prototypes in Rust).
     #[tactic(auto, using(std::proofs::lemmas::Bool::Decides::nat_tests), unfolding(crate::specs::Locators::follows))]
     fn follows(self, m: u8, s: [u8; 4]) -> bool
         ensures { result ≡ follows m s self.y0 self.y1 self.y2 }
@@ -53,7 +54,7 @@ impl Scaled {
     }
 }
 
-// The first place below `n` that fits the `m` numbers of `s`.
+// The first place below `n` that fits the `m` numbers of `s`. Four bytes with `m` beside: fixed memory, no heap.
 pub fn place_of(m: u8, s: [u8; 4], n: usize) -> Option<usize>
     requires { (2 ≤ m) × (m ≤ 4) }
     ensures { MatchOption result (NoPlace m s n) (FirstPlace m s n) }
@@ -66,17 +67,6 @@ pub fn place_of(m: u8, s: [u8; 4], n: usize) -> Option<usize>
         scaled = scaled.next();
     }
     None
-}
-
-// `x` times the root's `k`-th power.
-fn times_power(k: usize, x: u8) -> u8
-    ensures { result ≡ times_power k x }
-{
-    let mut y = x;
-    for _ in 0..k {
-        y = times_root(y);
-    }
-    y
 }
 
 // The inverse of a byte that is a power of the root, as every byte but 0 is: its 254th power, for the 255th is 1.

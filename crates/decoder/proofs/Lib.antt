@@ -34,7 +34,6 @@ pub mod NeverRefused20
 pub mod StoreDroplets
 pub mod SoundRestore
 pub mod DemandThree
-pub mod WrittenParts
 pub mod Unmarked
 pub mod DrawnFront
 pub mod RecordsAt

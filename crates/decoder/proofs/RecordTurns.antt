@@ -148,11 +148,6 @@ module _ (p : Pool) (bytes file marks before after : List ℕ) (r : Drawn) (size
     all-few e = let z : ◌≡◌ {A = ℕ} 0 1 = cc in omega arith
 
     module _ (q : List ℕ) (made : q ≡ padded 64 (payload L file (take r.degree after))) where
-      pub xor-long : length stored ≤ length q
-      xor-long =
-          let size = payload-length L file (take r.degree after) in
-          omega (arith, ap length made, padded-length 64 (payload L file (take r.degree after)) (omega (arith, p.pickable.narrow)), stored-size)
-
       pub contradicts-by : (same : Bool) → same ≡ same_bytes (take (length stored) q) stored → not same ≡ contradicts L st one
       unfolding contradicts droplet_of record_from
       contradicts-by same e =

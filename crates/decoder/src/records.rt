@@ -37,7 +37,7 @@ pub fn payload_in(bytes: &[u8], l: usize) -> &[u8]
     &bytes[4..4 + l]
 }
 
-// The state byte of the record with which some bytes start.
+// The state byte of the record with which some bytes start. A number: the byte is the record's, as the C host reads it (README).
 pub fn state_in(bytes: &[u8], l: usize) -> u8
     requires { (l ≤ 64) × (record_bytes l ≤ length bytes.now) }
     ensures { result ≡ record_state l bytes.now }

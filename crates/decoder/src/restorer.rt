@@ -15,6 +15,7 @@ use droplet::card::{Card, Plan, check_plan};
 use droplet::droplet::{degree_for, joining_segment, mark, payload_of, xor_into, xor_segment};
 use droplet::refusal::Refusal;
 use field::generator::Draw;
+use std::fmt;
 use strand::droplet_bytes::seed_of;
 
 // What a restore found: segments present, passes over the records, and records that contradict the segments.
@@ -25,6 +26,16 @@ pub struct Sheet {
     pub contradictions: usize,
 }
 
+impl fmt::Display for Sheet {
+    fn fmt<W: fmt::Write>(&self, f: &mut fmt::Formatter<W>) -> fmt::Result {
+        write!(
+            f,
+            "present {} sweeps {} contradictions {}",
+            self.present, self.passes, self.contradictions
+        )
+    }
+}
+
 // Which segments of a set are unmarked, as far as a step asks: none, one or more, where an Option in an Option would be no plainer.
 #[derive(Clone, Copy, Debug, PartialEq, Eq)]
 enum Unmarked {
@@ -33,15 +44,16 @@ enum Unmarked {
     Several,
 }
 
-// What drawing a record's set finds: its degree, and which of its segments are unmarked.
-#[derive(Clone, Copy)]
+// What drawing a record's set finds: its degree, and which of its segments are unmarked. The degree stands beside the list, which is
+// the host's memory: no heap.
+#[derive(Clone, Copy, Debug, PartialEq, Eq)]
 struct Drawn {
     degree: usize,
     unmarked: Unmarked,
 }
 
 // What the passes came to: marks set, and passes.
-#[derive(Clone, Copy)]
+#[derive(Clone, Copy, Debug, PartialEq, Eq)]
 struct Peeling {
     present: u32,
     passes: u32,
@@ -55,6 +67,9 @@ struct Pool<'a> {
     l: usize,
     ghost pickable: { Pickable weights.now plan.segments plan.sum l },
 }
+
+// Here and in the questions below L is handed in beside the store: a question is asked of numbers, and there is a Pool only when none
+// refuses (docs/DECISIONS.md, 33).
 
 // The bytes of the first `count` records of a store.
 fn first_records(store: &[u8], l: usize, count: usize) -> &[u8]
@@ -77,7 +92,7 @@ fn has_seed_zero(records: &[u8], l: usize) -> bool
     false
 }
 
-// What is found once segment `s` with this mark is looked at too.
+// What is found once segment `s` with this mark is looked at too. Marks are bytes 0 and 1, as the C host reads them.
 #[tactic(auto, unfolding(crate::specs::Loops::looked_at))]
 fn look_at(found: Unmarked, s: u32, mark: u8) -> Unmarked
     ensures { result ≡ looked_at found s mark }
@@ -92,7 +107,8 @@ fn look_at(found: Unmarked, s: u32, mark: u8) -> Unmarked
 }
 
 // Draws the first `n` of the `d` segments of a set, and looks at the mark of each as it joins. At the second unmarked one it
-// stops: the record is of no use in this pass. `words` is an empty bitmap of any length.
+// stops: the record is of no use in this pass. `words` is an empty bitmap of any length. No TryFrom for `d` and `i`: the clauses bound
+// them, and a refusal could not happen.
 fn draw_front(
     mut state: Draw,
     k: u32,
@@ -113,7 +129,7 @@ fn draw_front(
         mark(words, s);
         list[i] = s;
         found = look_at(found, s, marks[s as usize]);
-        if let Unmarked::Several = found {
+        if found == Unmarked::Several {
             return found;
         }
     }
@@ -121,7 +137,8 @@ fn draw_front(
 }
 
 // The set of `d` segments out of `k` that the draws after `state` pick, and which of them are unmarked. Most records that are of
-// no use show it in their first segments, for which a scan is faster than a bitmap; the others are drawn again with one.
+// no use show it in their first segments, for which a scan is faster than a bitmap (docs/DECISIONS.md, 8 and 15); the others are drawn
+// again with one. Beside `pick` and as it: droplet's `pick_with` says why there is not one function for both.
 fn draw_set(state: Draw, k: u32, d: usize, marks: &[u8], list: &mut [u32]) -> Unmarked
     requires { (k ≤ 131072) × (d ≤ k) × (d ≤ length list.old) × (k ≤ length marks.now) }
     ensures { Looked (pick_from d state (k - d) []) marks.now d list.old list.new result }
@@ -129,13 +146,14 @@ fn draw_set(state: Draw, k: u32, d: usize, marks: &[u8], list: &mut [u32]) -> Un
     if d <= 16 {
         return draw_front(state, k, d, d, marks, list, &mut []);
     }
-    if let Unmarked::Several = draw_front(state, k, d, 16, marks, list, &mut []) {
+    if draw_front(state, k, d, 16, marks, list, &mut []) == Unmarked::Several {
         return Unmarked::Several;
     }
     draw_front(state, k, d, d, marks, list, &mut [0; 2048])
 }
 
-// The stored payload XOR the marked segments of `list`, as 64 bytes, those past the payload's being 0.
+// The stored payload XOR the marked segments of `list`, as 64 bytes, those past the payload's being 0: fixed memory, no heap. Beside
+// `payload_of`, which takes all: a filter as a parameter would be no plainer, since its clause must say which segments it lets through.
 fn xor_marked(stored: &[u8], list: &[u32], file: &[u8], marks: &[u8]) -> [u8; 64]
     requires { (length stored.now ≤ 64) × AllBelow (length marks.now) list.now }
     ensures { result ≡ padded 64 (xor_lists stored.now (payload (length stored.now) file.now (known marks.now list.now))) }
@@ -163,8 +181,8 @@ fn fill(s: u32, stored: &[u8], list: &[u32], file: &mut [u8], marks: &mut [u8])
     marks[m] = 1;
 }
 
-// File, marks and number list stay three references, since a struct of them would be no plainer: their types say that each keeps its
-// length, and that a count of contradictions writes neither file nor marks, for which a struct needs clauses.
+// File, marks and number list stay three references, as the C interface lends them: a struct of them would be no plainer, since their types
+// say that each keeps its length, and that a count of contradictions writes neither file nor marks, for which a struct needs clauses.
 impl Pool<'_> {
     ghost use Rattle.decoder.specs.Restorer.{step, pass, present, peel, peel_all, contradicts, contradictions};
     ghost use Rattle.decoder.specs.Pools.{droplet_of, droplets_in, Seen, Room, Filled, Ended, MadeSheet};
@@ -213,7 +231,7 @@ impl Pool<'_> {
         filled
     }
 
-    // Passes until one fills nothing; that last one is counted too.
+    // Passes until one fills nothing; that last one is counted too. No `for`: what a pass fills ends the loop, no count of passes.
     fn peel(&self, records: &[u8], file: &mut [u8], marks: &mut [u8], list: &mut [u32]) -> Peeling
         requires { Room self.now file.old marks.old list.old × (present self.now.plan.segments marks.old ≡ 0) }
         ensures { Ended self.now
@@ -239,13 +257,15 @@ impl Pool<'_> {
             × (drop (weight_count self.now.weights.now) list.new ≡ drop (weight_count self.now.weights.now) list.old) }
     {
         let drawn = self.draw_record(bytes, marks, list);
-        let Unmarked::None = drawn.unmarked else {
+        if drawn.unmarked != Unmarked::None {
             return false;
-        };
+        }
         let p = payload_of(file, self.l, &list[..drawn.degree]);
         !p.starts_with(payload_in(bytes, self.l))
     }
 
+    // How many records contradict the segments. Beside `pass`: one function for both, with a closure for a record's turn, would be no
+    // plainer, since its contract must name what the closure did to file and marks, and this one is not lent them to write.
     fn count_contradictions(
         &self,
         records: &[u8],
@@ -291,7 +311,8 @@ impl Pool<'_> {
     }
 }
 
-// The questions 18 and 8, of the lengths of file, marks and number list.
+// The questions 18 and 8, of the lengths of file, marks and number list. The writer asks question 8 too: it is one comparison, and a
+// function for both would be no plainer.
 #[tactic(auto, unfolding(crate::specs::Restorer::room_refusal))]
 fn ask_room(
     plan: Plan,
@@ -349,7 +370,7 @@ pub fn restore(
     ensures { RestorePromise card weights.now store.now count file.old marks.old list.old result file.new marks.new list.new }
 {
     let plan = check_plan(card, weights)?;
-    let l = card.l as usize;
+    let l = usize::from(card.l);
     ask_later(plan, l, store, count, file.len(), marks.len(), list.len())?;
     let pool = Pool { weights, plan, l };
     Ok(pool.make_sheet(first_records(store, l, count), file, marks, list))

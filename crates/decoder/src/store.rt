@@ -23,7 +23,7 @@ pub enum StoreAnswer {
 }
 
 // A legal read: the droplet of its strand, and whether the read was clean.
-#[derive(Clone, Copy)]
+#[derive(Clone, Copy, Debug, PartialEq, Eq)]
 struct Read<'a> {
     seed: u32,
     payload: &'a [u8],
@@ -73,7 +73,8 @@ fn append(store: &mut [u8], count: usize, read: Read) -> Result<StoreAnswer, Ref
     Ok(StoreAnswer::Accepted(count + 1))
 }
 
-// Whether a read takes over the record of its seed: a clean read, where the record's state byte is not that of a clean one.
+// Whether a read takes over the record of its seed: a clean read, where the record's state byte is not that of a clean one. The byte
+// stays a number, of which every value but 0 counts as not clean.
 fn takes_over(clean: bool, state: u8) -> bool
     ensures { result ≡ takes_over clean (reads_clean state) }
 {
@@ -117,13 +118,13 @@ fn store_legal(store: &mut [u8], count: usize, read: Read) -> Result<StoreAnswer
 }
 
 // The questions 9 to 13, 15, 20 and 16: the droplet is taken out of the read check's answer, or its refusal is handed on. The card's
-// own questions have been asked.
+// own questions have been asked: InRange stays a clause, as `check_strand` asks (docs/DECISIONS.md, 16).
 fn offer(card: Card, store: &mut [u8], count: usize, read: &[u8]) -> Result<StoreAnswer, Refusal>
     requires { Within card.l count store.old × InRange card }
     ensures { Keeps (store_reading card.l store.old count (letters_reading card read.now)) result store.new }
 {
     let droplet = read_check::check_strand(card, read)?;
-    let l = card.l as usize;
+    let l = usize::from(card.l);
     let legal = Read {
         seed: droplet.seed,
         payload: &droplet.payload[..l],
@@ -144,7 +145,7 @@ pub fn store_read(
     ensures { StorePromise card weights.now store.old count read.now result store.new }
 {
     card::check_plan(card, weights)?;
-    if !count_fits(store, card.l as usize, count) {
+    if !count_fits(store, usize::from(card.l), count) {
         return Err(Refusal::Count);
     }
     offer(card, store, count, read)

@@ -38,7 +38,8 @@ pub struct Bases(pub usize);
 #[derive(Clone, Copy, Debug, PartialEq, Eq)]
 pub struct Bytes(pub usize);
 
-// Four bases are one byte. Not From: it asks nothing of a length, and this does; and as methods the two would be no plainer.
+// Four bases are one byte. Not From: it asks nothing of a length, and `to_bases` does; `to_bytes` drops what is no whole byte. As methods
+// the two would be no plainer.
 #[tactic(auto, unfolding(crate::specs::PoolCard::bases_of))]
 pub fn to_bases(n: Bytes) -> Bases
     requires { n.0 ≤ 65536 }
@@ -102,7 +103,7 @@ fn degrees_right(segments: u32, weights: &[u8]) -> bool
     ensures { result ≡ degrees_right segments weights.now }
 {
     let degrees = weights.len() / 4;
-    weights.len() % 4 == 0 && 1 <= degrees && degrees <= segments as usize && degrees <= 1024
+    weights.len() % 4 == 0 && (1..=1024).contains(&degrees) && degrees <= segments as usize
 }
 
 // Question 4: the sum of the weights, if the answer is yes. They are summed, and once, when they are known to be few enough for 64 bits.
@@ -124,7 +125,8 @@ fn width_right(card: Card) -> bool
     !card.interleaved || (2..=card.f).contains(&card.width)
 }
 
-// The questions 2 to 4 and 27, with which every call but the card reader starts.
+// The questions 2 to 4 and 27, with which every call but the card reader starts. D by `as` and no TryFrom: it is 1,024 at most by then,
+// so that a refusal could not happen.
 #[tactic(auto, unfolding(crate::specs::Questions::plan_of, crate::specs::Questions::card_refusal, crate::specs::Questions::weights_right))]
 pub fn check_plan(card: Card, weights: &[u8]) -> Result<Plan, Refusal>
     ensures { plan_answer result ≡ plan_of card weights.now }
@@ -197,7 +199,7 @@ fn card_numbers(head: &[u8], rest: &[u8]) -> Card
 }
 
 // A card's bytes before its weights: two fields, and tag and length of the third. The card cutter writes them, the card reader
-// compares with them.
+// compares with them. The length by `as` and no TryFrom: the clause bounds it, so that a refusal could not happen.
 #[tactic(auto, unfolding(crate::specs::PoolCard::card_bytes, crate::specs::PoolCard::field_bytes, crate::specs::PoolCard::to_two_bytes, field::specs::Bytes::to_big_endian))]
 pub fn card_head(card: Card, weights: &[u8]) -> [u8; 20]
     requires { length weights.now < 65536 }

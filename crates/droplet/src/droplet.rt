@@ -9,7 +9,8 @@ ghost use Rattle.droplet.specs.Loops.{Drawable, Picked, Marked, with_bit, xor_fr
 use super::weights::weight;
 use field::generator::Draw;
 
-// The degree that the number `r` gives.
+// The degree that the number `r` gives. The bound of 4,096 bytes stays a clause, here and in `weights`: the weights are lent bytes, and
+// docs/CLAIMS.md names this function.
 pub fn degree_for(weights: &[u8], r: u32) -> usize
     requires { (length weights.now ≤ 4096) × (r < weight_sum weights.now) }
     ensures { result ≡ degree weights.now r }
@@ -45,7 +46,8 @@ fn has_joined(words: &[u64], list: &[u32], t: u32) -> bool
     contains(list, t)
 }
 
-// `s` joins the bitmap where that has a bit for it.
+// `s` joins the bitmap where that has a bit for it. Not the `set_mark` of marks: that is of bytes, and asks for a place within them; a
+// trait of words for these two and `has_joined` and `mark_at` would be no plainer.
 pub fn mark(words: &mut [u64], s: u32)
     ensures { words.new ≡ with_bit words.old s }
 {
@@ -67,7 +69,8 @@ pub fn joining_segment(state: Draw, j: u32, list: &[u32], words: &[u64]) -> u32
 
 // The set with the help of a bitmap of any length: a number that has no bit there is looked for in the list. The decoder's
 // `draw_front` has this loop too, and looks at each segment as it joins: one function for both, with a closure for the look, would be
-// no plainer, since its contract must name the states through which the closure went.
+// no plainer, since its contract must name the states through which the closure went. Its numbers by `as` and no TryFrom: the clause
+// bounds them by K, so that a refusal could not happen.
 fn pick_with(mut state: Draw, k: u32, d: usize, list: &mut [u32], words: &mut [u64])
     requires { (k ≤ 131072) × (d ≤ k) × (d ≤ length list.old) × Marked words.old [] }
     ensures { list.new ≡ pick_from d state (k - d) [] ++ drop d list.old }
@@ -82,7 +85,9 @@ fn pick_with(mut state: Draw, k: u32, d: usize, list: &mut [u32], words: &mut [u
 }
 
 // The first `d` places of `list` become the set of `d` segments out of `k` that the draws after `state` pick. For few segments a
-// scan is faster than a bitmap, which has to be cleared first.
+// scan is faster than a bitmap, which has to be cleared first (docs/DECISIONS.md, 8 and 15). The decoder's `draw_set` stands beside it for
+// the reason that `pick_with` has. State, K, d and list are handed on one by one: this one is public, so that what it asks may not change,
+// and a struct for the three private ones, in two crates, would be no plainer.
 pub fn pick(state: Draw, k: u32, d: usize, list: &mut [u32])
     requires { (k ≤ 131072) × (d ≤ k) × (d ≤ length list.old) }
     ensures { list.new ≡ pick_from d state (k - d) [] ++ drop d list.old }
@@ -95,7 +100,7 @@ pub fn pick(state: Draw, k: u32, d: usize, list: &mut [u32])
 }
 
 // The set of segments that a seed picks out of `k`, in the first places of `list`; its degree. `sum` is that of all weights,
-// which the caller takes once for many seeds.
+// which the caller takes once for many seeds. The degree stands beside the list, which is the host's memory: no heap for one of its length.
 pub fn segments_of(seed: u32, k: u32, weights: &[u8], sum: u32, list: &mut [u32]) -> usize
     requires { Drawable weights.now k sum list.old }
     ensures { Picked weights.now k seed result list.old list.new }
@@ -128,7 +133,9 @@ pub fn xor_segment(p: &mut [u8], file: &[u8], l: usize, s: u32)
     }
 }
 
-// The payload of the segments of `list`, as 64 bytes, those past `l` being 0.
+// The payload of the segments of `list`, as 64 bytes, those past `l` being 0: fixed memory, no heap. `l` stays a number bounded by a clause:
+// docs/CLAIMS.md names this function, so what it asks may not change. The decoder's `xor_marked` leaves segments out; with a filter lent
+// to one function for both, its clause would have to say which ones that lets through: no plainer.
 pub fn payload_of(file: &[u8], l: usize, list: &[u32]) -> [u8; 64]
     requires { l ≤ 64 }
     ensures { result ≡ padded 64 (payload l file.now list.now) }

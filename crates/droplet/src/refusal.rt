@@ -55,12 +55,12 @@ pub enum Refusal {
     FileBuffer = 28,
 }
 
-impl Refusal {
-    // The number of the question. Not From: the C forms want it in 32 bits and programs in 64, so one From would be no plainer.
-    pub fn number(self) -> u8
-        ensures { result ≡ refusal_number self }
-    {
-        self as u8
+// The number of the question, as the C forms return it.
+impl From<Refusal> for u32 {
+    ghost from_gives = { λ q n. n ≡ refusal_number q };
+
+    fn from(refusal: Refusal) -> u32 {
+        refusal as u32
     }
 }
 
@@ -69,6 +69,6 @@ impl fmt::Display for Refusal {
     ghost output = { λ q. Some (decimal (refusal_number q)) };
 
     fn fmt<W: fmt::Write>(&self, f: &mut fmt::Formatter<W>) -> fmt::Result {
-        write!(f, "{}", self.number())
+        write!(f, "{}", u32::from(*self))
     }
 }

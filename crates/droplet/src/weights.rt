@@ -48,7 +48,7 @@ fn sum_rows(weights: &[u8]) -> [u16; 64]
     lanes
 }
 
-// The number of four lanes, as of four bytes; a lane may pass 255.
+// The number of four lanes, as of four bytes; a lane may pass 255, so that `from_be_bytes` does not serve.
 fn join_lanes(four: &[u16]) -> u64
     requires { length four.now ≡ 4 }
     ensures { (result ≡ weight_at four.now 0) × (result < 2 ^ 41) }

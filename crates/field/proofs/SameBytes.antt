@@ -1,5 +1,5 @@
 -- The comparison of two lists of bytes says yes exactly of equal lists, and two parts are compared one after the other. Assumes nothing.
-use Rattle.std.proofs.Common.{◌≡◌, ℕ, true, false, ◌&&◌, eqb, List, [], ◌∷◌, ◌++◌, length, take, sym, refl, ap, ap₂, ◌∙◌, inl, inr, arith, eq-eqb, eqb-true}
+use Rattle.std.proofs.Common.{◌≡◌, ℕ, true, ◌&&◌, eqb, List, [], ◌∷◌, ◌++◌, length, take, sym, refl, ap, ap₂, ◌∙◌, inl, inr, arith, eq-eqb, eqb-true}
 use Rattle.std.specs.Prelude.{nat_eq}
 use Rattle.std.specs.Cmp.Lexicographic.{pointwise}
 use Rattle.std.specs.List.{starts_with}
@@ -30,9 +30,6 @@ same-append [] (y ∷ ys) us vs e = absurd (let z : ⊥ = omega arith in z)
 same-append (x ∷ xs) [] us vs e = absurd (let z : ⊥ = omega arith in z)
 same-append (x ∷ xs) (y ∷ ys) us vs e =
     elim (either (eqb x y)) [ inl t ↦ rw t (same-append xs ys us vs (omega arith)) | inr t ↦ rw t ]
-
-pub same_length : (xs ys : List ℕ) → (length xs ≡ length ys → ⊥) → false ≡ same_bytes xs ys
-same_length xs ys h = elim (either (same_bytes xs ys)) [ inl t ↦ absurd (h (ap length (same-eq xs ys t))) | inr t ↦ sym t ]
 
 -- ---- as the library has it
 

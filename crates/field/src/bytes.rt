@@ -9,7 +9,7 @@ pub fn number_at(bytes: &[u8], at: usize) -> u32
     u32::from_be_bytes([bytes[at], bytes[at + 1], bytes[at + 2], bytes[at + 3]])
 }
 
-// Copies bytes to the start of a buffer.
+// Copies bytes to the start of a buffer. `copy_from_slice` wants both as long as one another, this the front of a longer one.
 pub fn copy(from: &[u8], to: &mut [u8])
     requires { length from.now ≤ length to.old }
     ensures { to.new ≡ from.now ++ drop (length from.now) to.old }
@@ -17,7 +17,7 @@ pub fn copy(from: &[u8], to: &mut [u8])
     to[..from.len()].copy_from_slice(from);
 }
 
-// Copies bytes to the start of a buffer, and others behind them.
+// Copies bytes to the start of a buffer, and others behind them: as `copy`, of two.
 pub fn copy_both(front: &[u8], back: &[u8], to: &mut [u8])
     requires { length front.now + length back.now ≤ length to.old }
     ensures { to.new ≡ front.now ++ (back.now ++ drop (length front.now + length back.now) to.old) }

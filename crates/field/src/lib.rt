@@ -1,4 +1,4 @@
-// The lowest layer: bytes, their copying, comparing and XOR, the generator and its seed schedule, and the field of 256 elements.
+// The lowest layer: the copying of bytes and the number that four of them spell, the generator and its seed schedule, and the field of 256 elements.
 #![tactic(auto)]
 
 pub mod bytes;

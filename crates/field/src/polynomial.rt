@@ -39,6 +39,7 @@ pub trait Polynomial: Copy {
     ghost shifts: { (v : ℕ) → step v ≡ shift_up (WIDTH - 1) modulus v };
 }
 
+// The two impls have like bodies. No macro writes them: the gate refuses an impl that one of the repository's own writes.
 impl Polynomial for u8 {
     ghost WIDTH = { 8 };
 

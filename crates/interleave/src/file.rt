@@ -7,7 +7,7 @@ use droplet::card::Card;
 use droplet::refusal::Refusal;
 use field::bytes::copy;
 
-// The first F bytes of `source`, reordered where the card asks for it, into `target`.
+// The first F bytes of `source`, reordered where the card asks for it, into `target`. `back`: see `moves`.
 fn move_file(back: bool, card: Card, source: &[u8], target: &mut [u8])
     requires { (card.interleaved ≡ true → 1 ≤ card.width) × (card.f ≤ length source.now) × (card.f ≤ length target.old) }
     ensures { target.new ≡ file_reordered back card (take card.f source.now) ++ drop card.f target.old }
@@ -38,7 +38,7 @@ fn reorder_file(
     Ok(())
 }
 
-// Dealing: what the writer is handed, from the customer's file.
+// Dealing: what the writer is handed, from the customer's file. Two functions: docs/CLAIMS.md names both, each with its promise.
 pub fn interleave_file(
     card: Card,
     weights: &[u8],

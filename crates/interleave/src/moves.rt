@@ -1,5 +1,6 @@
 // The bytes of a file, interleaved or put back in order (document 02's dealing and undealing). One direction is the other with source
-// and target changed about, so one code serves both.
+// and target changed about, so one code serves both. `back` is a flag and no closure: there is one switch on it, in `move_strided`, and
+// `reordered` of the specs takes it.
 ghost use Rattle.std.specs.Prelude.{◌≡◌, ◌++◌, ◌≤◌, ◌<◌, ◌^◌, length, take, drop};
 ghost use Rattle.interleave.specs.Interleaving.{reordered};
 ghost use Rattle.interleave.specs.Moves.{Moved, FileMoved, strided, Fits, StridedMoved, InLines, Lines};

@@ -104,12 +104,6 @@ module _ (c : Card) (weights : List ℕ) (t : Tally) (line store : List ℕ) (t�
     holds = λ p h. rw (foldl-append (after_byte c weights) p xs ys) (second.holds (after_bytes c weights p xs) (first.holds p h));
   }
 
-  pub goes-byte : (bytes : List ℕ) (i : ℕ) → i < length bytes → Goes (λ p. after_bytes c weights p (take i bytes)) t line store t₁ line₁ store₁
-      → Goes (λ p. after_byte c weights p (get_or bytes i 0)) t₁ line₁ store₁ t₂ line₂ store₂
-      → Goes (λ p. after_bytes c weights p (take (i + 1) bytes)) t line store t₂ line₂ store₂
-  goes-byte bytes i more first second =
-      rw (add-one, take-suc bytes i 0) (goes_on (take i bytes) (get_or bytes i 0 ∷ []) first second)
-
 -- ---- reads
 
 module _ (c : Card) (weights : List ℕ) (t : Tally) (line store : List ℕ) where

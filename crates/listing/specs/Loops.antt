@@ -1,6 +1,6 @@
 -- What the contracts of the program's own functions cite: the input by its bytes, and how the code holds what they came to. No
 -- sentence of document 01 stands here. Assumes nothing.
-use Rattle.std.specs.Prelude.{◌≡◌, ℕ, ◌%◌, ◌^◌, ◌≤◌, min, Bool, IsTrue, ◌↔◌, cond, List, [], ◌∷◌, ◌++◌, length, take, ◌==◌, nat_lt, Option, Some, None, is_some, unwrap_or, Result, Ok, Err}
+use Rattle.std.specs.Prelude.{◌≡◌, ℕ, ◌%◌, ◌^◌, ◌≤◌, min, Bool, IsTrue, ◌↔◌, cond, List, [], ◌∷◌, ◌++◌, length, take, ◌==◌, nat_lt, Option, is_some, unwrap_or, Result, Ok, Err}
 use mathlib.Core.List.{foldl}
 use Rattle.std.specs.IoError.{error_kind}
 use Rattle.std.specs.declared.io.Error.{Error}

@@ -1,8 +1,7 @@
 ghost use Rattle.std.specs.Prelude.{◌≤◌, length, IfOk};
 ghost use Rattle.listing.specs.Loops.{Read, Came, Lists};
 
-use crate::tally::{Tally, add_bytes, end_input};
-use droplet::card::Card;
+use crate::tally::{Pool, Tally};
 use std::io;
 
 // Goes through the bytes that a read of standard input brought into `chunk`: the tally after them, or that nothing follows. A read that a
@@ -10,8 +9,7 @@ use std::io;
 fn take_read(
     rt: &impl Eprint,
     got: io::Result<usize>,
-    card: Card,
-    weights: &[u8],
+    pool: Pool<'_>,
     chunk: &[u8],
     line: &mut [u8],
     store: &mut [u8],
@@ -19,11 +17,11 @@ fn take_read(
 ) -> Option<Tally>
     requires within { t.held ≤ length line.old }
     requires fits { IfOk got (λ n. n ≤ length chunk.now) }
-    ensures { Read card weights.now got chunk.now t line.old store.old result line.new store.new }
+    ensures { Read pool.entry.card pool.entry.weights.now got chunk.now t line.old store.old result line.new store.new }
 {
     match got {
         Ok(0) => None,
-        Ok(n) => Some(add_bytes(card, weights, &chunk[..n], line, store, t)),
+        Ok(n) => Some(pool.add_bytes(&chunk[..n], line, store, t)),
         Err(e) if e.kind() == io::ErrorKind::Interrupted => Some(t),
         Err(e) => {
             let _ = eprintln!(rt; "standard input: {e}");
@@ -37,19 +35,18 @@ fn take_read(
 fn read_all(
     rt: &impl Eprint,
     input: &mut impl io::Read,
-    card: Card,
-    weights: &[u8],
+    pool: Pool<'_>,
     chunk: &mut [u8],
     line: &mut [u8],
     store: &mut [u8],
     mut t: Tally,
 ) -> Tally
     requires { t.held ≤ length line.old }
-    ensures { Came card weights.now t line.old store.old result line.new store.new }
+    ensures { Came pool.entry.card pool.entry.weights.now t line.old store.old result line.new store.new }
 {
     for _ in 0..u64::MAX {
         let got = input.read(chunk);
-        let Some(next) = take_read(rt, got, card, weights, chunk, line, store, t) else {
+        let Some(next) = take_read(rt, got, pool, chunk, line, store, t) else {
             return t;
         };
         t = next;
@@ -61,24 +58,14 @@ fn read_all(
 pub fn list_reads(
     rt: &impl Eprint,
     input: &mut impl io::Read,
-    card: Card,
-    weights: &[u8],
+    pool: Pool<'_>,
     chunk: &mut [u8],
     line: &mut [u8],
     store: &mut [u8],
 ) -> Tally
     requires { 289 ≤ length line.old }
-    ensures { Lists card weights.now store.old result store.new }
+    ensures { Lists pool.entry.card pool.entry.weights.now store.old result store.new }
 {
-    let t = read_all(
-        rt,
-        input,
-        card,
-        weights,
-        chunk,
-        line,
-        store,
-        Tally::default(),
-    );
-    end_input(card, weights, line, store, t)
+    let t = read_all(rt, input, pool, chunk, line, store, Tally::default());
+    pool.end_input(line, store, t)
 }

@@ -11,12 +11,14 @@ ghost use Rattle.droplet.specs.Questions.{card_refusal};
 
 use behind::total_behind;
 use decoder::restorer::restore;
-use droplet::card::{Card, read_card, segment_count, weights_end};
+use droplet::card::{read_card, segment_count, weights_end};
 use input::list_reads;
 use std::rt::Files;
 use std::{fs, io};
+use tally::Pool;
 
 // Reads until `bytes` is full, the input ends or a read fails, and returns how many bytes it put at the start of `bytes`.
+// Its loop stays a `while`, which is no less plain than a `for`: it ends by what the reads bring, and not by a count of turns.
 fn read_full(input: &mut impl io::Read, bytes: &mut [u8]) -> usize
     ensures { (result ≤ length bytes.new) × (result ≡ length (take result bytes.new)) }
 {
@@ -31,7 +33,8 @@ fn read_full(input: &mut impl io::Read, bytes: &mut [u8]) -> usize
     done
 }
 
-// The bytes of pool.card, read into `bytes`: none where it is missing, cannot be read, or has more than 8,192.
+// The bytes of pool.card, read into `bytes`: none where it is missing, cannot be read, or has more than 8,192. No Option: a card that is
+// missing is refused as an empty one is, with 1.
 fn load_card<'a>(rt: &impl Files, bytes: &'a mut [u8]) -> &'a [u8] {
     let n = match fs::open(rt, "pool.card") {
         Ok(mut file) => read_full(&mut file, &mut *bytes),
@@ -43,31 +46,28 @@ fn load_card<'a>(rt: &impl Files, bytes: &'a mut [u8]) -> &'a [u8] {
     &bytes[..n]
 }
 
-// Lists the reads of a pool, and restores from those on the store. The card's questions have been asked.
+// Lists the reads of a pool, and restores from those on the store. The card's questions have been asked. The lent buffers are handed on
+// one by one: a struct of them would hold six `&mut`, and would only be taken apart again here.
 fn list_pool(
     rt: &(impl Print + Eprint),
     input: &mut impl io::Read,
-    card: Card,
+    pool: Pool<'_>,
     segments: u32,
-    weights: &[u8],
     chunk: &mut [u8],
-    line: &mut [u8],
+    line: &mut [u8; 512],
     store: &mut [u8],
     file: &mut [u8],
     marks: &mut [u8],
     list: &mut [u32],
 ) -> io::Result<()>
-    requires { (289 ≤ length line.old) × (card_refusal card weights.now ≡ 0) }
+    requires { card_refusal pool.card pool.weights.now ≡ 0 }
 {
-    let t = list_reads(rt, input, card, weights, chunk, line, store);
-    let total = total_behind(store, usize::from(card.l), t.count);
-    match restore(card, weights, store, t.count, file, marks, list) {
+    let t = list_reads(rt, input, pool, chunk, line, store);
+    let total = total_behind(store, usize::from(pool.card.l), t.count);
+    match restore(pool.card, pool.weights, store, t.count, file, marks, list) {
         Ok(sheet) => {
             println!(rt; "{t}")?;
-            println!(rt;
-                "segments {segments} present {} sweeps {} contradictions {}",
-                sheet.present, sheet.passes, sheet.contradictions
-            )?;
+            println!(rt; "segments {segments} {sheet}")?;
             println!(rt; "behind {total}")
         }
         // No restore is refused here: the card is accepted, the count is that of this store, no legal read has seed 0, and the
@@ -82,23 +82,20 @@ fn run(
     input: &mut impl io::Read,
     bytes: &[u8],
     chunk: &mut [u8],
-    line: &mut [u8],
+    line: &mut [u8; 512],
     store: &mut [u8],
     file: &mut [u8],
     marks: &mut [u8],
     list: &mut [u32],
-) -> io::Result<()>
-    requires { 289 ≤ length line.old }
-{
+) -> io::Result<()> {
     match read_card(bytes) {
         Err(refusal) => println!(rt; "card {refusal}"),
         Ok((card, _)) => {
             let k = segment_count(card);
             if k * u32::from(card.l) <= 32768 {
                 let weights = &bytes[20..weights_end(bytes)];
-                list_pool(
-                    rt, input, card, k, weights, chunk, line, store, file, marks, list,
-                )
+                let pool = Pool { card, weights };
+                list_pool(rt, input, pool, k, chunk, line, store, file, marks, list)
             } else {
                 println!(rt; "card too large")
             }

@@ -8,7 +8,8 @@ pub fn mark_bytes(k: u32) -> usize
     (k as usize).div_ceil(8)
 }
 
-// The mark of segment `s`: 1 if it is present, 0 if it is missing.
+// The mark of segment `s`: 1 if it is present, 0 if it is missing. A number and no bool: its clause says the number (`mark_at` of
+// specs/Marks).
 pub fn mark_at(marks: &[u8], s: u32) -> u8
     requires { s < length marks.now * 8 }
     ensures { result ≡ mark_at marks.now s }
@@ -17,7 +18,8 @@ pub fn mark_at(marks: &[u8], s: u32) -> u8
     (marks[b] >> (s % 8)) % 2
 }
 
-// Marks segment `s` as present.
+// Marks segment `s` as present. It and `mark_at` are of bytes and ask for a place within them; droplet's two are of words and answer for
+// any place: a trait of words for two bits would be no plainer.
 pub fn set_mark(marks: &mut [u8], s: u32)
     requires { s < length marks.old * 8 }
     ensures { marks.new ≡ with_mark marks.old s }

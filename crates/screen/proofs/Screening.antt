@@ -1,8 +1,7 @@
 -- A word's measure, and the verdict on it; the count of C and G of its bases, byte by byte. Assumes nothing.
-use mathlib.Core.Path.{◌≡◌, refl, sym, ap, ◌∙◌}
+use mathlib.Core.Path.{◌≡◌, sym, ap, ◌∙◌}
 use mathlib.Core.Bool.{Bool, true, false, cond}
 use mathlib.Core.List.{List, [], ◌∷◌, ◌++◌}
-use mathlib.Core.Logic.{◌⊎◌, ⊎_elim}
 use Prim.Native.Nat.{ℕ, ◌+◌, ◌≤◌, zero-le}
 use native.Mathlib.Nat.{add_assoc, zero-add}
 use native.Mathlib.Omega.{arith}
@@ -13,7 +12,7 @@ use Rattle.droplet.specs.declared.card.Bases.{Bases}
 use Rattle.droplet.specs.PoolCard.{bases_of}
 use Rattle.screen.specs.declared.screen.Measure.{Measure}
 use Rattle.screen.specs.declared.limits.Verdict.{Verdict}
-use Rattle.screen.specs.declared.limits.Verdict.TheVariants.{Passes, LongRun, GcAlone}
+use Rattle.screen.specs.declared.limits.Verdict.TheVariants.{Passes}
 use Rattle.screen.specs.Letters.{byte_bases, word_bases}
 use Rattle.screen.specs.Screen.{longest_run, gc_count, byte_gc, measure_of, verdict, word_verdict, is, screen_passes}
 use Rattle.screen.proofs.Spelling.{bases-length}
@@ -60,12 +59,6 @@ module _ (word : List ℕ) {measure : Measure} {n : Bases} (measured : measure �
   compared c e = e ∙ rw (measured, in-bases)
 
 -- ---- what a verdict says of the screen
-
--- a verdict whose number is not that of `Passes`
-pub not-passes : (v : Verdict) → (v ≡ Passes → (◌≡◌ {A = ℕ} 0 1) ⊎ (◌≡◌ {A = ℕ} 0 2)) → is Passes v ≡ false
-not-passes Passes n = absurd (⊎_elim {C = ⊥} (λ (h : ◌≡◌ {A = ℕ} 0 1). omega arith) (λ (h : ◌≡◌ {A = ℕ} 0 2). omega arith) (n refl))
-not-passes LongRun n = refl
-not-passes GcAlone n = refl
 
 module _ (c : Card) (word : List ℕ) {v : Verdict} (says : v ≡ word_verdict c word) where
   pub passes : v ≡ Passes → screen_passes c word ≡ true

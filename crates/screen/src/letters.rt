@@ -19,7 +19,7 @@ fn letter_bits(x: u8) -> u8
     }
 }
 
-// The letter of a base.
+// The letter of a base. No enum of bases with From: a base is two bits of a byte, and in the screen 32 of them are one number.
 pub fn letter_of(base: u8) -> u8
     ensures { result ≡ letter_of base }
 {
@@ -54,7 +54,7 @@ pub fn write_letters(word: &[u8], out: &mut [u8])
     }
 }
 
-// The byte of four bases.
+// The byte of four bases. To the base 4: the library joins whole bytes alone.
 fn bases_byte(a: u8, b: u8, c: u8, d: u8) -> u8
     requires { (a < 4) × (b < 4) × (c < 4) × (d < 4) }
     ensures { result ≡ ((a * 4 + b) * 4 + c) * 4 + d }
@@ -76,7 +76,8 @@ fn read_byte(a: u8, b: u8, c: u8, d: u8) -> Option<u8>
     None
 }
 
-// Whether all of a read are letters, and the word that they spell. It stops at the first that is none.
+// Whether all of a read are letters, and the word that they spell. It stops at the first that is none. A bool and no Option: the word
+// goes into the lent buffer (fixed memory, no heap), so there is no value to carry.
 pub fn read_letters(read: &[u8], word: &mut [u8]) -> bool
     requires { length read.now ≡ 4 * length word.old }
     ensures value { result ≡ all_letters read.now }

@@ -1,15 +1,13 @@
 // The bases of a word, 32 to a number of 64 bits, so that one step looks at all of them. A base matches where it is equal to the one
 // before it: a run of n bases is a row of n - 1 matches.
-ghost use Rattle.std.specs.Prelude.{◌≡◌, ℕ, ◌+◌, ◌*◌, ◌/◌, ◌%◌, ◌^◌, ◌≤◌, ◌<◌, length, drop};
+ghost use Rattle.std.specs.Prelude.{◌≡◌, true, false, ℕ, ◌+◌, ◌*◌, ◌/◌, ◌%◌, ◌^◌, ◌≤◌, ◌<◌, length, drop};
 ghost use Rattle.screen.specs.Loops.{number_after, low_bits, gc_in, zero_pairs, chunks_number, thinned, Flags, longest_row};
-
-use field::bytes;
 
 // The lower bit of each of 32 bases.
 pub const LOW_BITS: u64 = 0x5555_5555_5555_5555;
 
 // The front of a word as a number, with a base before it, and the lower bits of its own bases.
-#[derive(Clone, Copy)]
+#[derive(Clone, Copy, Debug, PartialEq, Eq)]
 pub struct Front {
     pub number: u64,
     pub mask: u64,
@@ -58,25 +56,27 @@ pub fn front_of(word: &[u8], before: u64) -> Front
     Front { number, mask }
 }
 
-// Four bytes of a word as a number, and eight.
-fn four_at(word: &[u8], i: usize) -> u32
-    requires { i + 4 ≤ length word.now }
-    ensures { (n : ℕ) → number_after n (drop i word.now) ≡ number_after (n * 2 ^ 32 + result) (drop (i + 4) word.now) }
-{
-    bytes::number_at(word, i)
-}
-
+// Eight bytes of a word as a number.
 pub fn eight_at(word: &[u8], i: usize) -> u64
     requires { i + 8 ≤ length word.now }
     ensures { (n : ℕ) → number_after n (drop i word.now) ≡ number_after (n * 2 ^ 64 + result) (drop (i + 8) word.now) }
 {
-    (u64::from(four_at(word, i)) << 32) + u64::from(four_at(word, i + 4))
+    u64::from_be_bytes([
+        word[i],
+        word[i + 1],
+        word[i + 2],
+        word[i + 3],
+        word[i + 4],
+        word[i + 5],
+        word[i + 6],
+        word[i + 7],
+    ])
 }
 
-// Takes the first match from each row, and answers 0 if there was none.
-pub fn thin(matches: &mut [u64]) -> u64
+// Takes the first match from each row, and answers whether there was one.
+pub fn thin(matches: &mut [u64]) -> bool
     ensures matches_after { chunks_number matches.new ≡ thinned (chunks_number matches.old) }
-    ensures matches_value { (result ≡ 0 → chunks_number matches.old ≡ 0) × (chunks_number matches.old ≡ 0 → result ≡ 0) }
+    ensures result_value { (result ≡ false → chunks_number matches.old ≡ 0) × (result ≡ true → 0 < chunks_number matches.old) }
 {
     let mut any = 0;
     let mut before = 0;
@@ -86,7 +86,7 @@ pub fn thin(matches: &mut [u64]) -> u64
         any |= m;
         before = m;
     }
-    any
+    any != 0
 }
 
 // The longest run, one base longer than the longest row of matches. Each turn takes a match from every row, so that there are as many
@@ -96,7 +96,7 @@ pub fn longest_run(matches: &mut [u64]) -> usize
     ensures { result ≡ longest_row 320 (chunks_number matches.old) + 1 }
 {
     let mut longest = 1;
-    while thin(matches) != 0 {
+    while thin(matches) {
         longest += 1;
     }
     longest

@@ -51,7 +51,8 @@ fn measure_in(matches: &mut [u64], word: &[u8]) -> Measure
     Measure { longest, gc }
 }
 
-// The screen.
+// The screen. Ten numbers hold the matches of the longest word, a part of them those of a shorter one: fixed memory, no heap. The bound
+// of 72 bytes stays a clause, for the word is a part of a lent array; docs/CLAIMS.md names this function.
 pub fn measure_of(word: &[u8]) -> Measure
     requires { length word.now ≤ 72 }
     ensures { result ≡ measure_of word.now }

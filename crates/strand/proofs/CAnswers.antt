@@ -34,9 +34,6 @@ module _ (c : Card) (weights read : List ℕ) (r : Result ReadDroplet Refusal) (
     pub narrow : c.l ≤ 64
     narrow = (legal c weights ((accepts-exactly c weights read d.seed told.payload d.corrected).0 told.accepted).strand.card).sizes.l_most
 
-    pub array_size : length d.payload ≡ 64
-    array_size = ap length told.held ∙ padded-length 64 told.payload (omega (arith, told.size, narrow))
-
     pub droplet-handed : (out : List ℕ) → droplet_over c.l out d.seed (take c.l d.payload) ≡ handed_over c.l out (read_check c weights read)
     unfolding handed_over
     droplet-handed out = ap (droplet_over c.l out d.seed) told.first ∙ sym (ap (handed_over c.l out) told.accepted)

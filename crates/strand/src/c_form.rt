@@ -25,7 +25,18 @@ pub fn handed_card(f: u32, l: u8, r: u8, m: u8, lo: u16, hi: u16, dealt: u8, wid
     }
 }
 
-// Question 16, and then the droplet into the lent buffer.
+// What a C form without an answer of its own returns: 0, or the number of the refusal.
+pub fn code(outcome: Result<(), Refusal>) -> u32
+    ensures { result ≡ asked outcome }
+{
+    match outcome {
+        Ok(()) => 0,
+        Err(refusal) => u32::from(refusal),
+    }
+}
+
+// Question 16, and then the droplet into the lent buffer. l ≤ 64 stays a clause: a checked card as a type would have to be handed back by the
+// read check, for one number no plainer.
 fn hand_over(l: u8, droplet: ReadDroplet, out: &mut [u8]) -> Result<(), Refusal>
     requires { l ≤ 64 }
     ensures { handed (asked result) out.new ≡ droplet_over l out.old droplet.seed (take l droplet.payload) }
@@ -65,8 +76,5 @@ pub fn fountain_check_read(
         (read_check (handed_card f l r m lo hi dealt width) weights.now read.now) }
 {
     let card = handed_card(f, l, r, m, lo, hi, dealt, width);
-    match check_into(card, weights, read, out) {
-        Ok(()) => 0,
-        Err(refusal) => u32::from(refusal.number()),
-    }
+    code(check_into(card, weights, read, out))
 }

@@ -32,7 +32,8 @@ fn pad(payload: &[u8]) -> [u8; 64]
     out
 }
 
-// Questions 12 and 13, asked of a codeword in which so many bytes were corrected.
+// Questions 12 and 13, asked of a codeword in which so many bytes were corrected. IsWord stays a clause, here and below: the word is a part
+// of a buffer of 72 bytes, which is fixed memory, and no value of a type.
 fn check_codeword(card: Card, word: &[u8], corrected: u8) -> Result<ReadDroplet, Refusal>
     requires { IsWord card word.now }
     ensures { Answers (strand_reading card word.now corrected) result }
@@ -87,7 +88,8 @@ fn check_length(card: Card, read: &[u8], buffer: &mut [u8]) -> Result<ReadDrople
     check_letters(card, read, &mut buffer[..size])
 }
 
-// The questions 9 to 13, for a caller that has asked the card's own.
+// The questions 9 to 13, for a caller that has asked the card's own. InRange stays a clause: docs/DECISIONS.md, 16, names this function and
+// what it requires.
 pub fn check_strand(card: Card, read: &[u8]) -> Result<ReadDroplet, Refusal>
     requires { InRange card }
     ensures { Answers (letters_reading card read.now) result }

@@ -66,7 +66,7 @@ impl Run {
 }
 
 // The word of a strand in the first bytes of `word`: seed, payload and parity. All four bytes of the parity are copied, and
-// those past R are none of the word's.
+// those past R are none of the word's. CheckCount is asked as in field's `parity_of`.
 fn fill_word(card: Card, seed: u32, payload: &[u8], word: &mut [u8])
     requires { CheckCount card.r × (length payload.now ≡ card.l) × (4 + card.l + 4 ≤ length word.old) }
     ensures { take (strand_bytes card) word.new ≡ strand_word card seed payload.now }
@@ -77,7 +77,8 @@ fn fill_word(card: Card, seed: u32, payload: &[u8], word: &mut [u8])
     bytes::copy(&parity, &mut word[message..]);
 }
 
-// A strand's letters and a newline at the front of `out`.
+// A strand's letters and a newline at the front of `out`. The word is a part of an array of 72 bytes, so its length stays a clause: fixed
+// memory.
 fn write_line(word: &[u8], out: &mut [u8])
     requires { (length word.now ≤ 72) × (length word.now * 4 + 1 ≤ length out.old) }
     ensures { out.new ≡ with_front (strand_line word.now) out.old }
@@ -100,7 +101,8 @@ fn write_passing(card: Card, word: &[u8], out: &mut [u8]) -> Verdict
     verdict
 }
 
-// What the strands of a run are made from: a file, and the card and its weights that no question refused, with their plan.
+// What the strands of a run are made from: a file, and the card and its weights that no question refused, with their plan. The buffer and
+// the number list are no fields, as in interleave's moves: with `&mut` fields each contract would have to say too what they still refer to.
 #[derive(Drop)]
 struct Source<'a> {
     card: Card,
@@ -137,6 +139,7 @@ impl Source<'_> {
         if out_len < (wanted as usize) * self.line_bytes() {
             return Err(Refusal::Output);
         }
+        // One comparison: a function for it and the restorer's would be no plainer.
         if list_len < self.plan.degrees as usize {
             return Err(Refusal::NumberList);
         }

@@ -3,4 +3,4 @@ use Rattle.listing.proofs.BehindRecords.{lists-within}
 use Rattle.listing.proofs.list_pool.Goals as goal
 
 pub total_behind-total-requires : goal.total_behind-total-requires
-total_behind-total-requires g c = rw c.from.ensures (lists-within _ _ _ _ _ c.requires.1 c.list_reads-t.ensures)
+total_behind-total-requires g c = rw c.from.ensures (lists-within _ _ _ _ _ c.requires c.list_reads-t.ensures)

@@ -42,4 +42,4 @@ slice_bounds-weights-end g c =
 
 pub list_pool-requires : goal.list_pool-requires
 list_pool-requires g c =
-    (c.requires, rw (weights-part c.args.bytes.now _ c.weights_end.ensures.0) (read _ c.read_card.ensures c.in-Ok.is).unrefused)
+    rw (weights-part c.args.bytes.now _ c.weights_end.ensures.0) (read _ c.read_card.ensures c.in-Ok.is).unrefused

@@ -1,5 +1,5 @@
 -- `fountain_choose_call` meets its contract: the numbers of each of the three answers. Assumes nothing.
-use Rattle.std.proofs.Common.{rules, ◌≡◌, List, [], ◌∷◌, ℕ, Result, Ok, Err, refl, ap, ◌∙◌}
+use Rattle.std.proofs.Common.{◌≡◌, List, [], ◌∷◌, ℕ, Result, Ok, Err, refl, ap, ◌∙◌}
 use Rattle.droplet.specs.declared.refusal.Refusal.{Refusal}
 use Rattle.basecalls.specs.declared.choice.Caller.{Caller}
 use Rattle.basecalls.specs.declared.choice.Caller.TheVariants.{First, Second}

@@ -1,5 +1,5 @@
 -- `fountain_cut_card` meets its contract: the number of each of the card cutter's answers. Assumes nothing.
-use Rattle.std.proofs.Common.{rules, ◌≡◌, List, [], ◌∷◌, ℕ, Result, Ok, Err, refl, ap, ◌∙◌}
+use Rattle.std.proofs.Common.{◌≡◌, List, [], ◌∷◌, ℕ, Result, Ok, Err, refl, ap, ◌∙◌}
 use Rattle.droplet.specs.declared.refusal.Refusal.{Refusal}
 use Rattle.droplet.specs.CardCutter.{cut_answer}
 use Rattle.capi.specs.CForms.{cut_returned}

@@ -1,5 +1,5 @@
 -- `fountain_read_card` meets its contract: the numbers of each of the card reader's answers. Assumes nothing.
-use Rattle.std.proofs.Common.{rules, ◌≡◌, List, [], ◌∷◌, ℕ, Result, Ok, Err, refl, ap, ◌∙◌}
+use Rattle.std.proofs.Common.{◌≡◌, List, [], ◌∷◌, ℕ, Result, Ok, Err, refl, ap, ◌∙◌}
 use Rattle.droplet.specs.declared.card.Card.{Card}
 use Rattle.droplet.specs.declared.refusal.Refusal.{Refusal}
 use Rattle.droplet.specs.Questions.{card_answer}

@@ -1,5 +1,5 @@
 -- `fountain_seed_at` meets its contract: the numbers of each of the two answers. Assumes nothing.
-use Rattle.std.proofs.Common.{rules, ◌≡◌, List, [], ◌∷◌, ℕ, Result, Ok, Err, refl, ap, ◌∙◌}
+use Rattle.std.proofs.Common.{◌≡◌, List, [], ◌∷◌, ℕ, Result, Ok, Err, refl, ap, ◌∙◌}
 use Rattle.droplet.specs.declared.refusal.Refusal.{Refusal}
 use Rattle.split.specs.SeedPosition.{seed_answer}
 use Rattle.capi.specs.CForms.{seed_returned}

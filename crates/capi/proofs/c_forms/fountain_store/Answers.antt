@@ -1,5 +1,5 @@
 -- `fountain_store` meets its contract: the numbers of each of the store call's answers. Assumes nothing.
-use Rattle.std.proofs.Common.{rules, ◌≡◌, List, [], ◌∷◌, ℕ, Result, Ok, Err, refl, ap, ◌∙◌}
+use Rattle.std.proofs.Common.{◌≡◌, List, ℕ, Result, Ok, Err, refl, ap, ◌∙◌}
 use Rattle.droplet.specs.declared.refusal.Refusal.{Refusal}
 use Rattle.decoder.specs.declared.store.StoreAnswer.{StoreAnswer}
 use Rattle.decoder.specs.declared.store.StoreAnswer.TheVariants.{Accepted, Repeat, Replaced}

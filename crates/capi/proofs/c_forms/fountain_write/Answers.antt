@@ -1,5 +1,5 @@
 -- `fountain_write` meets its contract: the numbers of each of the writer's answers. Assumes nothing.
-use Rattle.std.proofs.Common.{rules, ◌≡◌, List, [], ◌∷◌, ℕ, Result, Ok, Err, refl, ap, ◌∙◌}
+use Rattle.std.proofs.Common.{◌≡◌, List, [], ◌∷◌, ℕ, Result, Ok, Err, refl, ap, ◌∙◌}
 use Rattle.droplet.specs.declared.refusal.Refusal.{Refusal}
 use Rattle.strand.specs.declared.writer.Run.{Run}
 use Rattle.strand.specs.Writer.{write_answer}

@@ -1,5 +1,6 @@
 -- `draw_front`: a turn draws one segment, by `Picking`, and looks at its mark, by `Unmarked`. Assumes nothing.
 use mathlib.Core.Path.{◌≡◌, refl}
+use borrow.Author.Rules.{rules}
 use mathlib.Core.List.{List}
 use Prim.Native.Nat.{ℕ, ◌+◌, ◌-◌, ◌<◌}
 use native.Mathlib.Omega.{arith}
@@ -31,13 +32,13 @@ bounds-marks-s c =
     let l = c.loop-i in
     omega (arith, c.joining_segment-s.ensures, joins-most (take l.i l.list) (c.args.k - c.args.d + l.i) (number_drawn c.next-state.result))
 
-pub returns-in-Several : goal.returns-in-Several
-returns-in-Several c =
+pub returns-then-eq : goal.returns-then-eq
+returns-then-eq c =
     let x = c.args in
     let l = c.loop-i in
     let turned = picking-turns _ _ _ _ _ _ _ l.invariant.0 _ _ _ c.requires.3 (omega arith) c.next-state.ensures refl c.joining_segment-s.ensures in
     let found = looked x.marks.now l.list l.i _ (omega arith) l.invariant.2 c.look_at-found.ensures in
-    looked-several x.k x.d x.state x.list.now _ _ _ turned c.requires.3 x.n (omega arith) c.requires.2 _ _ found c.in-Several.is
+    looked-several x.k x.d x.state x.list.now _ _ _ turned c.requires.3 x.n (omega arith) c.requires.2 _ _ found (search rules)
 
 pub loop-i-preserved : goal.loop-i-preserved
 loop-i-preserved c =

@@ -15,10 +15,10 @@ returns-then-d-le16 c =
 pub draw_front-requires-2 : goal.draw_front-requires-2
 draw_front-requires-2 c = (search rules, search rules, search rules, search rules, search rules, marked-none 0)
 
-pub returns-in-Several : goal.returns-in-Several
-returns-in-Several c =
+pub returns-then-eq : goal.returns-then-eq
+returns-then-eq c =
     let x = c.args in
-    whole-several x.k x.d x.state x.list.now x.marks.now _ 16 _ c.in-Several.is c.draw_front-2.ensures
+    whole-several x.k x.d x.state x.list.now x.marks.now _ 16 _ (search rules) c.draw_front-2.ensures
 
 pub draw_front-requires-3 : goal.draw_front-requires-3
 draw_front-requires-3 c = (search rules, search rules, search rules, search rules, search rules, marked-none 2048)

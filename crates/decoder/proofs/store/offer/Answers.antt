@@ -42,7 +42,7 @@ returns-in_err-droplet c =
     (refused-too _ _ _ _ _ (refuses c.args.card.l _ _ c.check_strand.ensures _ c.in_err-droplet.was))
 
 pub store_legal-requires : goal.store_legal-requires
-store_legal-requires c = rw (size _ _ c.requires.1 _ c.check_strand.ensures _ c.in_ok-droplet.was) c.requires.0
+store_legal-requires c = rw (c.from-l.ensures, size _ _ c.requires.1 _ c.check_strand.ensures _ c.in_ok-droplet.was) c.requires.0
 
 pub returns : goal.returns
-returns c = stored _ _ c.requires.1 _ c.check_strand.ensures _ c.in_ok-droplet.was _ _ _ _ c.store_legal.ensures
+returns c = stored _ _ c.requires.1 _ c.check_strand.ensures _ c.in_ok-droplet.was _ _ _ _ (rw c.from-l.ensures at c.store_legal.ensures)

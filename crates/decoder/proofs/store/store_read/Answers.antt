@@ -38,21 +38,21 @@ returns-in_err-check_plan c =
     rw (handed_on _ _ c.from_residual.ensures.1) (illegal _ _ _ _ _ _ (stopped _ _ c.check_plan.ensures c.in_err-check_plan.was))
 
 pub count_fits-requires : goal.count_fits-requires
-count_fits-requires c = (passed _ _ c.check_plan.ensures c.in_ok-check_plan.was).legal.sizes.l_most
+count_fits-requires c = rw c.from.ensures (passed _ _ c.check_plan.ensures c.in_ok-check_plan.was).legal.sizes.l_most
 
 pub returns-then-not-count_fits : goal.returns-then-not-count_fits
 returns-then-not-count_fits c =
     let card = passed _ _ c.check_plan.ensures c.in_ok-check_plan.was in
-    overfull _ _ _ _ _ card.unrefused (sym c.if-not-count_fits.ensures)
+    overfull _ _ _ _ _ card.unrefused (sym (rw c.from.ensures at c.if-not-count_fits.ensures))
 
 pub offer-requires : goal.offer-requires
 offer-requires c =
     let card = passed _ _ c.check_plan.ensures c.in_ok-check_plan.was in (
-      record { short = card.legal.sizes.l_most; fits = leb-true _ _ (sym c.if-not-count_fits.ensures) },
+      record { short = card.legal.sizes.l_most; fits = leb-true _ _ (sym (rw c.from.ensures at c.if-not-count_fits.ensures)) },
       record { l_most = card.legal.sizes.l_most; check_count = card.legal.sizes.check_count },
     )
 
 pub returns : goal.returns
 returns c =
     let card = passed _ _ c.check_plan.ensures c.in_ok-check_plan.was in
-    stored _ _ _ _ _ card.unrefused (sym c.if-not-count_fits.ensures) _ _ c.offer.ensures
+    stored _ _ _ _ _ card.unrefused (sym (rw c.from.ensures at c.if-not-count_fits.ensures)) _ _ c.offer.ensures

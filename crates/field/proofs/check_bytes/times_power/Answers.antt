@@ -6,10 +6,10 @@ use Rattle.field.proofs.check_bytes.times_power.Goals as goal
 
 pub loop-init : goal.loop-init
 unfolding times_power
-loop-init g c = refl
+loop-init c = refl
 
 pub loop-preserved : goal.loop-preserved
 unfolding times_power
-loop-preserved g c =
+loop-preserved c =
     let l = c.loop in
     rw (c.times_root-y.ensures, l.invariant, add-one) (sym (power-double l.counter c.args.x))

@@ -4,4 +4,4 @@ use Rattle.field.specs.CheckBytes.{times_power}
 use Rattle.field.proofs.check_bytes.times_power.Given as goal
 
 abbrev pub invariant-loop : goal.invariant-loop
-invariant-loop g l = l.y ≡ times_power l.counter l.x
+invariant-loop l = l.y ≡ times_power l.counter l.x

@@ -1,5 +1,4 @@
 -- `read_all` meets its contract: what comes in a turn comes behind what came so far. Assumes nothing.
-use Rattle.std.proofs.Common.{ap}
 use Rattle.listing.proofs.LineInHand.{came-read}
 use Rattle.listing.proofs.input.read_all.Goals as goal
 

@@ -3,4 +3,4 @@ use Rattle.listing.specs.Loops.{Came}
 use Rattle.listing.proofs.input.read_all.Given as goal
 
 abbrev pub invariant-loop : goal.invariant-loop
-invariant-loop g l = Came l.card l.weights l.initial.t l.initial.line l.initial.store l.t l.line l.store
+invariant-loop g l = Came l.pool.card l.pool.weights.now l.initial.t l.initial.line l.initial.store l.t l.line l.store

@@ -1,29 +1,30 @@
 -- `longest_run`: each turn takes a flag from every row, so that one is left to count less. Assumes nothing.
 use mathlib.Core.Path.{◌≡◌, refl}
-use Prim.Native.Nat.{ℕ, ◌+◌}
+use mathlib.Core.Bool.{Bool, true, false}
+use Prim.Native.Nat.{ℕ, ◌+◌, ◌<◌}
 use native.Mathlib.Omega.{arith}
 use Rattle.screen.specs.Loops.{chunks_number, thinned, Flags, longest_row}
 use Rattle.screen.proofs.MatchRows.{thinned-flags, thinned-longest, some-row, no_row, row-most}
 use Rattle.screen.proofs.packed.longest_run.Goals as goal
 
--- a turn that answers `any` and leaves m of n
-abbrev Turn : ℕ → ℕ → ℕ → Type 0
-Turn any n m = record { matches_after : m ≡ thinned n; matches_value : (any ≡ 0 → n ≡ 0) × (n ≡ 0 → any ≡ 0) }
+-- a turn that answers `some` and leaves m of n
+abbrev Turn : Bool → ℕ → ℕ → Type 0
+Turn some n m = record { matches_after : m ≡ thinned n; result_value : (some ≡ false → n ≡ 0) × (some ≡ true → 0 < n) }
 
-module _ (k any n m : ℕ) (flags : Flags k n) (t : Turn any n m) where
+module _ (k : ℕ) (some : Bool) (n m : ℕ) (flags : Flags k n) (t : Turn some n m) where
   -- it leaves flags
   turn-flags : Flags k m
   turn-flags = rw t.matches_after (thinned-flags k n flags)
 
   -- where there was one, the longest row is one flag shorter
-  shorter : (any ≡ 0 → ⊥) → longest_row k m + 1 ≡ longest_row k n
-  shorter some =
+  shorter : some ≡ true → longest_row k m + 1 ≡ longest_row k n
+  shorter e =
       rw t.matches_after
-      (omega (arith, thinned-longest k n flags, some-row k n flags (λ z. some (t.matches_value.1 z))))
+      (omega (arith, thinned-longest k n flags, some-row k n flags (λ z. omega (arith, t.result_value.1 e))))
 
   -- and where there was none, there is no row
-  no-more : any ≡ 0 → longest_row k n ≡ 0
-  no-more none = rw (t.matches_value.0 none) (no_row k)
+  no-more : some ≡ false → longest_row k n ≡ 0
+  no-more e = rw (t.result_value.0 e) (no_row k)
 
 pub loop-longest-init : goal.loop-longest-init
 loop-longest-init c = (c.requires, refl)

@@ -1,10 +1,13 @@
 -- `thin`: a turn thins one number more, with the last flag of the one before it in front. Assumes nothing.
 use mathlib.Core.Path.{◌≡◌, refl, ap, ◌∙◌}
+use mathlib.Core.Bool.{Bool, not, true, false}
 use mathlib.Core.List.{List}
 use Prim.Native.Nat.{ℕ, ◌+◌, ◌*◌, ◌/◌, ◌%◌, ◌^◌, ◌<◌}
 use native.Mathlib.Omega.{arith}
 use lib.Bits.{bit_and, bit_or, and_le_l, and_le_r, or_add_and}
 use borrow.Author.Rules.{rules}
+use borrow.Author.Tests.{eqb-true, eqb-false}
+use lib.Dec.{eqb}
 use lib.ListN.{length, get_or, set, length-set}
 use lib.Seq.{get_or-set_other, take_all}
 use Rattle.screen.specs.Loops.{chunks_number, thinned}
@@ -43,6 +46,14 @@ module _ (xs zs : List ℕ) (any before i : ℕ) (now : Thins xs zs any before i
         no-any = λ q. omega (arith, grows, now.no-any (omega (arith, grows)));
       }
 
+-- the test at the end, of which `none` is the answer
+tested : (none : Bool) (any n : ℕ) → eqb any 0 ≡ none → (any ≡ 0 → n ≡ 0) → (n ≡ 0 → any ≡ 0)
+    → (not none ≡ false → n ≡ 0) × (not none ≡ true → 0 < n)
+tested true any n t zero-any zero-n = (λ e. zero-any (eqb-true any 0 t), λ e. cc)
+tested false any n f zero-any zero-n =
+    let some : n ≡ 0 → ⊥ = λ z. eqb-false any 0 f (zero-n z) in
+    (λ e. cc, λ e. omega (arith, some))
+
 pub loop-chunk-init : goal.loop-chunk-init
 unfolding chunks_number thinned
 loop-chunk-init c = record {
@@ -70,5 +81,5 @@ returns c =
     let all-now = take_all l.chunk-index l.matches (omega (arith, l.invariant.long)) in
     record {
       matches_after = rw (all, all-now) at l.invariant.thins;
-      matches_value = (rw all at l.invariant.none, rw all at l.invariant.no-any);
+      result_value = tested _ _ _ refl (rw all at l.invariant.none) (rw all at l.invariant.no-any);
     }

@@ -2,7 +2,7 @@
 use Rattle.std.proofs.Common.{arith, length-set, eq-eqb, ne_eqb}
 use Rattle.listing.specs.Loops.{after_byte}
 use Rattle.listing.proofs.LineInHand.{byte-kept, byte-dropped}
-use Rattle.listing.proofs.tally.add_byte.Goals as goal
+use Rattle.listing.proofs.tally.Pool.add_byte.Goals as goal
 
 pub returns-then-b-eq10 : goal.returns-then-b-eq10
 unfolding after_byte

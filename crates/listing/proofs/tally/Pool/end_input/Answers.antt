@@ -2,7 +2,7 @@
 use Rattle.std.proofs.Common.{arith}
 use Rattle.listing.specs.Loops.{after_newline, after_end}
 use Rattle.listing.proofs.InputLines.{last_none, last_one}
-use Rattle.listing.proofs.tally.end_input.Goals as goal
+use Rattle.listing.proofs.tally.Pool.end_input.Goals as goal
 
 pub returns-then-t-eq0 : goal.returns-then-t-eq0
 unfolding after_end
