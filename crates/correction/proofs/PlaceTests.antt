@@ -19,7 +19,7 @@ use Rattle.correction.specs.declared.locators.Scaled.{Scaled}
 use Rattle.correction.specs.Locators.{at, Fits, without, follows, square, linear, constant, NoPlace, FirstPlace, NoTwoPlaces, FirstTwo}
 use Rattle.correction.proofs.ErrorShapes.{fits-same}
 
-power-turn : (p x y d : ℕ) → y ≡ times_power p x → d ≡ double y → d ≡ times_power (p + 1) x
+pub power-turn : (p x y d : ℕ) → y ≡ times_power p x → d ≡ double y → d ≡ times_power (p + 1) x
 unfolding times_power
 power-turn p x y d e f =
     let n : p + 1 ≡ suc p = omega arith in

@@ -38,7 +38,7 @@ impl fmt::Display for Sheet {
 
 // Which segments of a set are unmarked, as far as a step asks: none, one or more, where an Option in an Option would be no plainer.
 #[derive(Clone, Copy, Debug, PartialEq, Eq)]
-enum Unmarked {
+pub enum Unmarked {
     None,
     One(u32),
     Several,
@@ -47,16 +47,16 @@ enum Unmarked {
 // What drawing a record's set finds: its degree, and which of its segments are unmarked. The degree stands beside the list, which is
 // the host's memory: no heap.
 #[derive(Clone, Copy, Debug, PartialEq, Eq)]
-struct Drawn {
-    degree: usize,
-    unmarked: Unmarked,
+pub struct Drawn {
+    pub degree: usize,
+    pub unmarked: Unmarked,
 }
 
 // What the passes came to: marks set, and passes.
 #[derive(Clone, Copy, Debug, PartialEq, Eq)]
-struct Peeling {
-    present: u32,
-    passes: u32,
+pub struct Peeling {
+    pub present: u32,
+    pub passes: u32,
 }
 
 // What the records of a pool are read with: the weights that pick their sets, K with the sum of the weights, and the bytes of a segment.

@@ -13,6 +13,16 @@ pub and-else : (b : Bool) {a first flag : Bool} → first ≡ a → first ≡ fa
 and-else b {a = true} e t h = cc
 and-else b {a = false} e t h = cc
 
+-- the same where the second of the two was asked first
+pub and_before : {a b first flag : Bool} → first ≡ b → first ≡ true → flag ≡ a → flag ≡ (a && b)
+and_before {a = true} {b = true} e t h = h
+and_before {a = true} {b = false} e t h = cc
+and_before {a = false} e t h = h
+
+pub and-before_no : (a : Bool) {b first flag : Bool} → first ≡ b → first ≡ false → flag ≡ first → flag ≡ (a && b)
+and-before_no true e t h = cc
+and-before_no false e t h = cc
+
 pub and-true : (a b : Bool) → (a && b) ≡ true → (a ≡ true) × (b ≡ true)
 and-true true b e = (refl, e)
 and-true false b e = (e, cc)

@@ -261,7 +261,7 @@ fn is_card(card: Card, head: &[u8], weights: &[u8], rest: &[u8]) -> bool
     requires { (length head.now ≡ 20) × (length weights.now < 65536) }
     ensures { result ≡ (same_bytes head.now (take weights_start (card_bytes card weights.now)) && same_bytes rest.now (width_field card)) }
 {
-    head == card_head(card, weights).as_slice() && is_width(card, rest)
+    is_width(card, rest) && head == card_head(card, weights).as_slice()
 }
 
 // Question 1: the numbers and the weights of a well-formed card, which is the card of its own numbers and weights.

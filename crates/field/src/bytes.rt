@@ -9,12 +9,15 @@ pub fn number_at(bytes: &[u8], at: usize) -> u32
     u32::from_be_bytes([bytes[at], bytes[at + 1], bytes[at + 2], bytes[at + 3]])
 }
 
-// Copies bytes to the start of a buffer. `copy_from_slice` wants both as long as one another, this the front of a longer one.
+// Copies bytes to the start of a buffer. Not by `copy_from_slice`, for which the compiler calls memmove where it cannot tell that the two
+// are apart: a C host that links the archives gives them memcpy and memset alone (include/fountain.h).
 pub fn copy(from: &[u8], to: &mut [u8])
     requires { length from.now ≤ length to.old }
     ensures { to.new ≡ from.now ++ drop (length from.now) to.old }
 {
-    to[..from.len()].copy_from_slice(from);
+    for (i, &b) in from.iter().enumerate() {
+        to[i] = b;
+    }
 }
 
 // Copies bytes to the start of a buffer, and others behind them: as `copy`, of two.

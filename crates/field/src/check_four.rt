@@ -134,5 +134,6 @@ pub fn syndromes_four(word: &[u8]) -> [u8; 4]
 pub fn parity_four(message: &[u8]) -> [u8; 4]
     ensures { result ≡ padded 4 (parity 4 message.now) }
 {
-    up_four(remainder_of(message)).to_be_bytes()
+    let p = up_four(remainder_of(message));
+    p.to_be_bytes()
 }

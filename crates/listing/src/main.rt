@@ -35,7 +35,9 @@ fn read_full(input: &mut impl io::Read, bytes: &mut [u8]) -> usize
 
 // The bytes of pool.card, read into `bytes`: none where it is missing, cannot be read, or has more than 8,192. No Option: a card that is
 // missing is refused as an empty one is, with 1.
-fn load_card<'a>(rt: &impl Files, bytes: &'a mut [u8]) -> &'a [u8] {
+fn load_card<'a>(rt: &impl Files, bytes: &'a mut [u8]) -> &'a [u8]
+    ensures { length result.now ≤ length bytes.old }
+{
     let n = match fs::open(rt, "pool.card") {
         Ok(mut file) => read_full(&mut file, &mut *bytes),
         Err(_) => 0,

@@ -1,7 +1,7 @@
 -- The word of a strand: its length, in bases too, that it consists of bytes, and its parts. Assumes nothing.
 use mathlib.Core.Path.{◌≡◌, ap₂, ◌∙◌}
 use mathlib.Core.List.{List, ◌++◌, append_assoc}
-use Prim.Native.Nat.{ℕ, ◌+◌, ◌^◌, ◌<◌}
+use Prim.Native.Nat.{ℕ, ◌+◌, ◌*◌, ◌^◌, ◌<◌}
 use lib.ListN.{length, length-append}
 use lib.Seq.{take_at, drop_at}
 use Rattle.field.specs.Bytes.{IsByte, AllBytes, to_big_endian}
@@ -10,8 +10,15 @@ use Rattle.field.proofs.BigEndian.{to-from, to-length, to-bytes}
 use Rattle.field.proofs.ByteLists.{all_append}
 use Rattle.field.proofs.Parity.{parity-length, parity-bytes}
 use Rattle.droplet.specs.declared.card.Card.{Card}
-use Rattle.droplet.specs.PoolCard.{strand_bytes}
+use Rattle.droplet.specs.declared.card.Bases.{Bases}
+use Rattle.droplet.specs.declared.card.Bytes.{Bytes}
+use Rattle.droplet.specs.PoolCard.{strand_bytes, bases_of}
 use Rattle.strand.specs.ReadCheck.{word_seed, word_payload, strand_word}
+
+-- a strand's length in bases, by the one conversion
+pub strand-in-bases : (c : Card) {b : Bytes} {n : Bases} → b ≡ record { 0 = strand_bytes c } → n ≡ bases_of b → n.0 ≡ strand_bytes c * 4
+unfolding bases_of
+strand-in-bases c strand bases = rw (bases, strand)
 
 module _ (c : Card) (seed : ℕ) (p : List ℕ) where
   message-length : length p ≡ c.l → length (to_big_endian seed ++ p) ≡ 4 + c.l

@@ -12,4 +12,4 @@ returns c =
     let m = c.args.message.now in
     let r = c.remainder_of in
     c.to_be_bytes.ensures ∙ to_be-big_endian _
-    ∙ ap (padded 4) (ap to_big_endian c.up_four.ensures ∙ parity-by m r.result (all_from IsByte m 0 (λ k h. omega (arith, c.type_inv.message k))) r.ensures)
+    ∙ ap (padded 4) (ap to_big_endian c.up_four-p.ensures ∙ parity-by m r.result (all_from IsByte m 0 (λ k h. omega (arith, c.type_inv.message k))) r.ensures)

@@ -42,5 +42,8 @@ returns-in-66 c = record {
   small = lit< tt;
 }
 
-pub returns-in_default : goal.returns-in_default
-returns-in_default c = others c.args.x (omega arith) (omega arith) (omega arith) (omega arith)
+pub returns-in-0-to-64 : goal.returns-in-0-to-64
+returns-in-0-to-64 c = others c.args.x (omega arith) (omega arith) (omega arith) (omega arith)
+
+pub returns-in-0-to-64-2 : goal.returns-in-0-to-64-2
+returns-in-0-to-64-2 c = others c.args.x (omega arith) (omega arith) (omega arith) (omega arith)
